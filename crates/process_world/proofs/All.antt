@@ -3,7 +3,8 @@ use Rattle.guest_image.specs.Image.{ImageContents}
 use Rattle.std.proofs.Common.{ℕ, ◌∷◌, ◌++◌}
 use Rattle.requests.specs.Asking.{asked_again}
 use Rattle.process_world.specs.Worlds.{ProcessWorld}
-use Rattle.process_world.specs.Happenings.{Happens, AtKeeper, Loses, GoesLiveIn, HearsRequest, LeadsRound, Seals, HearsSaid, LacksMemory, Tells, Ends, Joins, Wants, Asks, AsksAgain, HearsAnswer, Prints, Comes, First, Then}
+use Rattle.process_world.specs.Happenings.{Happens, AtKeeper, Loses, GoesLiveIn, HearsRequest, LeadsRound, Seals, HearsSaid, LacksMemory, Tells, Ends, Joins}
+use Rattle.process_world.specs.Happenings.{Wants, Asks, AsksAgain, HearsAnswer, Prints, Comes, First, Then}
 use Rattle.process_world.specs.Promises.{Processes}
 use Rattle.process_world.specs.machinery.Tied.{IsTied}
 use Rattle.process_world.specs.machinery.Worded.{AreWorded}
@@ -17,6 +18,7 @@ use Rattle.process_world.proofs.Telling.{hears_request, tells, ends, joins, want
 use Rattle.process_world.proofs.Promises.{promises}
 use Rattle.process_world.proofs.WordEvents.{first_worded, stays_worded}
 
+-- each event keeps the world tied
 stays_tied : (w v : ProcessWorld) → IsTied w → Happens w v → IsTied v
 stays_tied w v is (AtKeeper keeper d e out at goes) = at_keeper w is keeper d e out at goes
 stays_tied w v is (Loses keeper) = loses w is keeper
@@ -36,11 +38,13 @@ stays_tied w v is (AsksAgain c t at) = wants w is (asked_again t.asker ++ w.aske
 stays_tied w v is (HearsAnswer c t a at told new) = hears_answer w is c t a at told new
 stays_tied w v is (Prints c t word at had) = prints w is c t word at had
 
+-- so each world that comes is, and its words are known
 tied : {image : ImageContents} {keepers need : ℕ} {w : ProcessWorld} → Comes image keepers need w → IsTied w × AreWorded w.asked w.led
 tied {image = image} {keepers = keepers} {need = need} (First w begins) =
     (first_tied image keepers need w begins, first_worded w.asked w.led begins.none_led)
 tied (Then {w = w} {v = v} before next) =
     let (is, words) = tied before in let now = stays_tied w v is next in (now, stays_worded w v is now words next)
 
+-- and it keeps its promises
 pub processes : Processes
 processes image keepers need w comes = let (is, words) = tied comes in promises w is words

@@ -1,11 +1,12 @@
 -- Each term's machine begins at that of its parent, where it was given so many words; or at boot, where it was given none.
-use Rattle.std.proofs.Common.{◌≡◌, ◌⊎◌, inl, inr, ℕ, zero, suc, ◌+◌, ◌<◌, ◌≤◌, List, [], ◌∷◌, length, map, slice_get, Option, Some, None, refl, sym, ap, subst, ◌∙◌, arith}
+use Rattle.std.proofs.Common.{◌≡◌, ◌⊎◌, inl, inr, ℕ, zero, suc, ◌+◌, ◌<◌, ◌≤◌, List, [], ◌∷◌, length, map, slice_get, Option, Some, None, refl, sym, ap, subst}
+use Rattle.std.proofs.Common.{◌∙◌, arith}
 use Rattle.std.specs.List.{range_with_len}
 use Rattle.ft_types.specs.Counts.{count_at}
 use Rattle.interleaving.specs.Log.{IsCut}
 use Rattle.interleaving.specs.Machine.{at}
 use Rattle.interleaving.specs.Stored.{system_of, view}
-use Rattle.rv32_hart.specs.Hart.{Hart, boot_hart}
+use Rattle.rv32_hart.specs.Hart.{boot_hart}
 use Rattle.rv32_hart.specs.Hardware.{hardware}
 use Rattle.hart_lease.specs.Runs.{counts_of, journal_turns, steps_taken}
 use Rattle.book_modes.specs.Hearings.{HartMachine}
@@ -13,10 +14,10 @@ use Rattle.book_modes.specs.Recordings.{RecordingView, heard_by}
 use Rattle.page_book.specs.Books.{BookView}
 use Rattle.fragment_codec.specs.Rules.{OpeningParts}
 use Rattle.log_join.specs.Families.{Past}
-use Rattle.hart_replay.specs.Histories.{IsTerm, TermHistory, machine_in}
+use Rattle.hart_replay.specs.Histories.{IsTerm, machine_in}
 use Rattle.hart_replay.specs.Images.{GuestTerm, boot_of}
-use Rattle.hart_replay.specs.Primaries.{term_of as history_of}
 use Rattle.hart_replay.proofs.walking.Outcomes.{booted_none}
+use Rattle.fenced_theory.proofs.Growing.{some_same, some_none}
 use Rattle.requests.specs.declared.queue.TheConstants.{WORD_LIMIT}
 use Rattle.word_sequences.specs.Sequences.{machine_at, sequence_of, words_below}
 use Rattle.wire.specs.declared.requests.Request.{Request}
@@ -25,7 +26,7 @@ use Rattle.failover_world.proofs.Promises.{untold}
 use Rattle.process_world.specs.Worlds.{Led, ProcessWorld}
 use Rattle.process_world.specs.machinery.Tied.{IsTied}
 use Rattle.process_world.specs.machinery.Worded.{AreWorded, BookWords}
-use Rattle.process_world.proofs.Lists.{some_same, none_some}
+use Rattle.process_world.proofs.Seats.{tell}
 use Rattle.process_world.proofs.RoundWords.{book_words}
 use Rattle.process_world.proofs.Sequences.{at_cut}
 
@@ -60,13 +61,10 @@ Origin w x =
     ComesFrom w x.opening.parent x.book
 
 module _ (w : ProcessWorld) (is : IsTied w) where
-  abbrev tell : TermBook w.image.pages → TermHistory (Option Hart) (Option (List ℕ))
-  tell t = history_of t.book
-
   module _ (x : Led) (p : Past (TermBook w.image.pages)) (there : is.terms x.opening.term ≡ Some p) where
     -- its term in the history
-    term : IsTerm (system_of (hardware w.image.pages)) (boot_of w.image) (history is.terms) x.opening.term (retold tell p)
-    term = is.is_history.is_history.terms x.opening.term (retold tell p) (ap (retold_in tell) there)
+    term : IsTerm (system_of (hardware w.image.pages)) (boot_of w.image) (history is.terms) x.opening.term (retold (tell w is) p)
+    term = is.is_history.is_history.terms x.opening.term (retold (tell w is) p) (ap (retold_in (tell w is)) there)
 
     -- from boot
     booted : p.opening.parent ≡ 0 → IsBooted p.told.book
@@ -81,7 +79,7 @@ module _ (w : ProcessWorld) (is : IsTied w) where
         }
 
     -- or from its parent
-    behind : (q : Past (TermBook w.image.pages)) → is.terms p.opening.parent ≡ Some q → IsCut (tell q.told).log (counts_of p.told.book.start) →
+    behind : (q : Past (TermBook w.image.pages)) → is.terms p.opening.parent ≡ Some q → IsCut (tell w is q.told).log (counts_of p.told.book.start) →
         IsBehind q.told.book p.told.book
     behind q at_parent cut =
         let k = q.told.book in
@@ -91,7 +89,7 @@ module _ (w : ProcessWorld) (is : IsTied w) where
         (counts_of b.start) =
         term.start
         ∙ ap (λ (t : Option GuestTerm). machine_in (system_of (hardware w.image.pages)) (boot_of w.image) t (counts_of b.start))
-        (ap (retold_in tell) at_parent) in
+        (ap (retold_in (tell w is)) at_parent) in
         record {
           above = cut.from_start;
           within = cut.to_end;
@@ -104,11 +102,11 @@ module _ (w : ProcessWorld) (is : IsTied w) where
 
   -- where the parent is another term, it is that of a primary that was granted
   from_parent : (b : BookView RecordingView) (u : ℕ) (past : GuestTerm) → history is.terms u ≡ Some past → IsCut past.told.log (counts_of b.start) →
-      ((q : Past (TermBook w.image.pages)) → is.terms u ≡ Some q → IsCut (tell q.told).log (counts_of b.start) → IsBehind q.told.book b) →
+      ((q : Past (TermBook w.image.pages)) → is.terms u ≡ Some q → IsCut (tell w is q.told).log (counts_of b.start) → IsBehind q.told.book b) →
       (m : ℕ) × (k : Led) × (slice_get w.led m ≡ Some k) × (k.opening.term ≡ u) × IsBehind k.book b
   from_parent b u past was cut goes =
-      let (q, there, of) = untold tell (is.terms u) past was in
-      let same : past ≡ retold tell q = some_same was (ap (retold_in tell) there) in
+      let (q, there, of) = untold (tell w is) (is.terms u) past was in
+      let same : past ≡ retold (tell w is) q = some_same was (ap (retold_in (tell w is)) there) in
       let (m, k, at_k, of_term) = is.granted.no_other u q there in
       let (r, also, opening, book) = is.granted.each m k at_k in
       let e : r ≡ q = some_same also (ap is.terms of_term ∙ there) in
@@ -125,7 +123,7 @@ module _ (w : ProcessWorld) (is : IsTied w) where
   pub no_boot : (n : ℕ) (x : Led) → slice_get w.led n ≡ Some x → x.opening.term ≡ 0 → ⊥
   no_boot n x at_x boot =
       let (p, there, opening, book) = is.granted.each n x at_x in
-      absurd (none_some (ap (history is.terms) boot ∙ is.is_history.is_history.none) (ap (retold_in tell) there))
+      some_none (ap (retold_in (tell w is)) there) (ap (history is.terms) boot ∙ is.is_history.is_history.none)
 
   -- of each term that was granted it is known where it comes from
   pub origin : (n : ℕ) (x : Led) → slice_get w.led n ≡ Some x → Origin w x

@@ -1,6 +1,6 @@
 -- What is done with a keeper's disk keeps the world tied, and so does that a keeper is lost.
-use Rattle.std.proofs.Common.{◌≡◌, inl, inr, ℕ, ◌<◌, ◌≤◌, List, [], ◌∷◌, Contains, Option, Some, None, refl, sym, ap, subst, ◌∙◌, arith}
-use Rattle.interleaving.proofs.Cuts.{here_or_later}
+use Rattle.std.proofs.Common.{◌≡◌, inl, inr, ℕ, ◌≤◌, List, [], ◌∷◌, ◌++◌, Contains, Option, Some, None, refl, sym, ap, subst, ◌∙◌, arith, le_of_eq, le_trans}
+use Rattle.std.proofs.lemmas.List.Elements.{Contains-append_cases}
 use Rattle.interleaving.specs.Lists.{put}
 use Rattle.interleaving.proofs.Put.{same_or_not, put_same, put_other}
 use Rattle.ft_types.specs.Counts.{count_at}
@@ -10,27 +10,30 @@ use Rattle.guest_image.specs.Image.{guest_of}
 use Rattle.fragment_codec.specs.declared.frame.Frame.{Frame}
 use Rattle.fenced_theory.specs.Recorders.{Recorder}
 use Rattle.fenced_theory.specs.Worlds as theory
+use Rattle.fenced_theory.proofs.Growing.{some_same, some_none}
 use Rattle.stations.specs.Acts.{Act}
 use Rattle.stations.specs.Handshake.{Files, Did, after}
-use Rattle.keeper_disks.specs.Disks.{Phase, Keeps, Reads, Begins, Adds, AddsMore, Syncs, Looks, Acknowledges, Hand, Nobody, Saw, HasFenced, Gives, Sees, Fences, HandsOver, Disk, Out, Nothing, Says, Hands, Goes, KeeperDoes, HandDoes, Takes, KeeperEnds, HandEnds, Crashes}
-use Rattle.keeper_disks.specs.Standing.{KnowsFence, StandsOn, IsSame, LeadsTo, Same, Then, IsFollowed, IsTold as IsToldBy}
+use Rattle.keeper_disks.specs.Disks.{Phase, Keeps, Reads, Begins, Adds, AddsMore, Syncs, Looks, Acknowledges, Hand, HasFenced, Gives, Sees, Fences, HandsOver}
+use Rattle.keeper_disks.specs.Disks.{Disk, Out, Nothing, Says, Hands, Goes, KeeperDoes, HandDoes, Takes, KeeperEnds, HandEnds, Crashes}
+use Rattle.keeper_disks.specs.Standing.{nothing_there, KnowsFence, StandsOn, OnlyKeeper, LeadsTo, Same, Then, IsFollowed, IsTold as IsToldBy}
 use Rattle.keeper_disks.proofs.Acts.{disks_go}
-use Rattle.keeper_disks.proofs.Has.{still_sent}
 use Rattle.keeper_disks.proofs.Standings.{disks_stay}
 use Rattle.wire.specs.declared.acknowledgements.Acknowledgement.{Acknowledgement}
 use Rattle.failover_world.specs.machinery.Tied.{Books}
 use Rattle.process_world.specs.Worlds.{Handed, ProcessWorld}
 use Rattle.process_world.specs.Happenings.{with_out}
 use Rattle.process_world.specs.machinery.Tied.{quorum_of, IsGiven, IsTold, IsTied}
-use Rattle.process_world.proofs.Lists.{some_same, none_some}
-use Rattle.process_world.proofs.Seats.{stays}
+use Rattle.process_world.proofs.Lists.{none_in, only_one}
+use Rattle.process_world.proofs.Seats.{stays, given_stays, Theory, ComesIn}
 
 -- ---- fences
 
+-- the term that was fenced for
 abbrev term_in : Hand → ℕ
 term_in (HasFenced term) = term
 term_in other = 0
 
+-- the term that is handed over to
 abbrev term_out : Out → ℕ
 term_out (Hands term bytes) = term
 term_out other = 0
@@ -46,6 +49,7 @@ module _ (guest : GuestParts) (files : Files) where
   keeps_fence phase act next out (Looks st fence seen) = refl
   keeps_fence phase act next out (Acknowledges st fence p seen may) = refl
 
+  -- and hands nothing over
   keeps_log : (phase : Phase) (act : Act) (next : Phase) (out : Out) (term : ℕ) (bytes : List ℕ) → Keeps guest files phase act next out →
       out ≡ Hands term bytes → ⊥
   keeps_log phase act next out term bytes Reads = λ e. cc
@@ -107,138 +111,159 @@ comes_by : {Book Fact : Type 0} (recorder : Recorder Book Fact) (guest : GuestPa
 comes_by recorder guest quorum comes Same = comes
 comes_by recorder guest quorum comes (Then before next) = theory.Then (comes_by recorder guest quorum comes before) next
 
-module _ (w : ProcessWorld) (is : IsTied w) (keeper : ℕ) (d e : Disk) (out : Out) (at : w.disks keeper ≡ Some d)
-    (goes : Goes (guest_of w.image) w.frames d e out) where
-  goes_there : Goes (guest_of w.image) is.world.sent d e out
-  goes_there = subst (λ sent. Goes (guest_of w.image) sent d e out) (sym is.sent) goes
+-- The keeper's disk is another, or gone: in the theory nothing but what there is of this keeper is another.
+module _ (w : ProcessWorld) (is : IsTied w) (keeper : ℕ) (d : Disk) (now : Option Disk) (v : Theory w is) (only : OnlyKeeper is.world v keeper d) where
+  -- the disks, with this one
+  abbrev disks : ℕ → Option Disk
+  disks = put w.disks keeper now
 
-  abbrev follows : IsFollowed is.is_recorder.recorder (guest_of w.image) (quorum_of w) is.world keeper d e out
-  follows = disks_go is.is_recorder.recorder (guest_of w.image) (quorum_of w) is.world keeper d e out (is.standing keeper d at) goes_there
+  -- this is the keeper's own
+  its_own : (k : ℕ) (e : Disk) → keeper ≡ k → disks k ≡ Some e → now ≡ Some e
+  its_own k e here there = sym (put_same w.disks keeper k now here) ∙ there
 
-  abbrev v : theory.World (Books w.image.pages is.are_theory)
-  v = follows.world
+  -- and others' are as they were
+  was_there : (k : ℕ) (e : Disk) → (keeper ≡ k → ⊥) → disks k ≡ Some e → w.disks k ≡ Some e
+  was_there k e other there = sym (put_other w.disks keeper k now other) ∙ there
 
   -- no acknowledgement is forgotten
   more_acked : (u k hart : ℕ) → is.world.acked u k hart ≤ v.acked u k hart
   more_acked u k hart =
       elim (same_or_not keeper k) [
-        | inl here ↦ subst (λ k. is.world.acked u k hart ≤ v.acked u k hart) here (follows.only.acked u hart)
-        | inr other ↦
-            let same : v.acked u k hart ≡ is.world.acked u k hart = ap (λ f. f hart) ((follows.only.others k other).acked u) in omega (arith, same)
+        | inl here ↦ subst (λ k. is.world.acked u k hart ≤ v.acked u k hart) here (only.acked u hart)
+        | inr other ↦ le_of_eq (sym (ap (λ f. f hart) ((only.others k other).acked u)))
       ]
 
+  -- and no frame
   still : (f : Frame) → Contains is.world.sent f → Contains v.sent f
-  still f has = subst (λ fs. Contains fs f) (sym follows.only.sent) has
+  still f has = subst (λ fs. Contains fs f) (sym only.sent) has
 
-  abbrev disks : ℕ → Option Disk
-  disks = put w.disks keeper (Some e)
+  -- what this keeper handed over was given, and is given once
+  abbrev IsGivenOnce : Handed → Type 0
+  IsGivenOnce h =
+      (v.given h.term h.keeper ≡ is.world.given h.term h.keeper) ×
+      ((e : Disk) → now ≡ Some e → (h.term ≤ e.files.fence) × (e.hand ≡ HasFenced h.term → ⊥))
 
-  knows : KnowsFence d.files.fence d.hand
-  knows = (is.standing keeper d at).hand
-
-  its_own : (b : Disk) → disks keeper ≡ Some b → e ≡ b
-  its_own b there = some_same (put_same w.disks keeper keeper (Some e) refl) there
-
-  -- what was handed over is what was given
-  given_still : (h : Handed) → IsGiven is.world (guest_of w.image) w.disks h → IsGiven v (guest_of w.image) disks h
-  given_still h was =
+  -- so what was handed over is what was given
+  given_still : (h : Handed) → (keeper ≡ h.keeper → IsGivenOnce h) → IsGiven is.world (guest_of w.image) w.disks h → IsGiven v (guest_of w.image) disks h
+  given_still h own was =
       elim (same_or_not keeper h.keeper) [
         | inl here ↦
-            let once : (h.term ≤ d.files.fence) × (d.hand ≡ HasFenced h.term → ⊥) = was.once d (ap w.disks (sym here) ∙ at) in
-            record {
-              store = was.store;
-              given =
-                  subst (λ k. v.given h.term k ≡ is.world.given h.term k) here (follows.only.given h.term once.0 once.1) ∙ was.given;
-              frames = still_sent (guest_of w.image) is.world.sent v.sent still h.bytes [] was.store was.frames;
-              once = λ b there.
-                  subst (λ (b : Disk). (h.term ≤ b.files.fence) × (b.hand ≡ HasFenced h.term → ⊥)) (its_own b (ap disks here ∙ there))
-                  (goes_on (guest_of w.image) is.world.sent d e out goes_there knows h.term once.0 once.1);
-            }
+            given_stays is.world v (guest_of w.image) w.disks disks h (own here).0 still (λ e there. (own here).1 e (its_own h.keeper e here there)) was
         | inr other ↦
-            record {
-              store = was.store;
-              given = (follows.only.others h.keeper other).given h.term ∙ was.given;
-              frames = still_sent (guest_of w.image) is.world.sent v.sent still h.bytes [] was.store was.frames;
-              once = λ b there. was.once b (sym (put_other w.disks keeper h.keeper (Some e) other) ∙ there);
-            }
+            given_stays is.world v (guest_of w.image) w.disks disks h ((only.others h.keeper other).given h.term) still
+            (λ e there. was.once e (was_there h.keeper e other there)) was
       ]
 
   -- the world with what others learned of it
-  with_lists : (said : List Acknowledgement) (handed : List Handed) →
+  with_lists : ComesIn w is v → ((e : Disk) → now ≡ Some e → StandsOn (guest_of w.image) v keeper e) →
+      ((h : Handed) → Contains w.handed h → keeper ≡ h.keeper → IsGivenOnce h) → (said : List Acknowledgement) (handed : List Handed) →
       ((a : Acknowledgement) → Contains said a → (hart : ℕ) → count_at a.counts hart ≤ v.acked a.term a.keeper hart) →
-      ((h : Handed) → Contains handed h → IsGiven v (guest_of w.image) disks h) → IsTied (record w { disks = disks; said = said; handed = handed })
-  with_lists said handed all_said all_handed =
+      ((h : Handed) → Contains handed h → IsGiven v (guest_of w.image) disks h) →
+      IsTied (record w { disks = disks; said = said ++ w.said; handed = handed ++ w.handed })
+  with_lists comes stands once said handed all_said all_handed =
       record {
         are_theory = is.are_theory;
         is_recorder = is.is_recorder;
         terms = is.terms;
         world = v;
-        comes = comes_by is.is_recorder.recorder (guest_of w.image) (quorum_of w) is.comes follows.events;
-        terms_are = follows.only.terms ∙ is.terms_are;
+        comes = comes;
+        terms_are = only.terms ∙ is.terms_are;
         is_history = is.is_history;
         granted = is.granted;
         leaders = λ n l there.
             stays is.world v is.terms is.terms (guest_of w.image) w.keepers w.need l (is.leaders n l there) refl (more_acked l.primary.opening.term)
-            (λ r has. subst (λ rs. Contains rs r) (sym follows.only.released) has)
-            (λ hart. ap (λ f. f l.primary.opening.term hart) follows.only.notes) (λ hart. ap (λ f. f l.primary.opening.term hart) follows.only.marks);
-        sent = follows.only.sent ∙ is.sent;
-        standing = λ k b there. elim (same_or_not keeper k) [
-          | inl here ↦
-              subst (λ k. StandsOn (guest_of w.image) v k b) here
-              (subst (λ b. StandsOn (guest_of w.image) v keeper b) (its_own b (ap disks here ∙ there)) follows.stands)
+            (λ r has. subst (λ rs. Contains rs r) (sym only.released) has)
+            (λ hart. ap (λ f. f l.primary.opening.term hart) only.notes) (λ hart. ap (λ f. f l.primary.opening.term hart) only.marks);
+        sent = only.sent ∙ is.sent;
+        standing = λ k e there. elim (same_or_not keeper k) [
+          | inl here ↦ subst (λ k. StandsOn (guest_of w.image) v k e) here (stands e (its_own k e here there))
           | inr other ↦
-              let was : w.disks k ≡ Some b = sym (put_other w.disks keeper k (Some e) other) ∙ there in
-              disks_stay (Books w.image.pages is.are_theory) (guest_of w.image) is.world v k b (is.standing k b was) (follows.only.others k other) still
+              disks_stay (Books w.image.pages is.are_theory) (guest_of w.image) is.world v k e (is.standing k e (was_there k e other there))
+              (only.others k other) still
         ];
-        said = all_said;
-        handed = all_handed;
-        told = λ a has. subst (λ rs. IsTold rs a) (sym follows.only.released) (is.told a has);
+        said = λ a has. elim (Contains-append_cases said w.said a has) [
+          | inl new ↦ all_said a new
+          | inr was ↦ λ hart. le_trans (is.said a was hart) (more_acked a.term a.keeper hart)
+        ];
+        handed = λ h has. elim (Contains-append_cases handed w.handed h has) [
+          | inl new ↦ all_handed h new
+          | inr was ↦ given_still h (once h was) (is.handed h was)
+        ];
+        told = λ a has. subst (λ rs. IsTold rs a) (sym only.released) (is.told a has);
         heard = is.heard;
       }
 
-  said_still : (a : Acknowledgement) → Contains w.said a → (hart : ℕ) → count_at a.counts hart ≤ v.acked a.term a.keeper hart
-  said_still a has hart = let was = is.said a has hart in let more = more_acked a.term a.keeper hart in omega (arith, was, more)
+module _ (w : ProcessWorld) (is : IsTied w) (keeper : ℕ) (d e : Disk) (out : Out) (at : w.disks keeper ≡ Some d)
+    (goes : Goes (guest_of w.image) w.frames d e out) where
+  -- the act is one in the theory's world
+  goes_there : Goes (guest_of w.image) is.world.sent d e out
+  goes_there = subst (λ sent. Goes (guest_of w.image) sent d e out) (sym is.sent) goes
 
-  handed_still : (h : Handed) → Contains w.handed h → IsGiven v (guest_of w.image) disks h
-  handed_still h has = given_still h (is.handed h has)
+  -- which follows it
+  abbrev follows : IsFollowed is.is_recorder.recorder (guest_of w.image) (quorum_of w) is.world keeper d e out
+  follows = disks_go is.is_recorder.recorder (guest_of w.image) (quorum_of w) is.world keeper d e out (is.standing keeper d at) goes_there
+
+  -- whoever hands the log over knows its fence
+  knows : KnowsFence d.files.fence d.hand
+  knows = (is.standing keeper d at).hand
+
+  -- what it handed over was given, and is given once
+  given_once : (h : Handed) → Contains w.handed h → keeper ≡ h.keeper → IsGivenOnce w is keeper d (Some e) follows.world follows.only h
+  given_once h has here =
+      let (le, not) = (is.handed h has).once d (ap w.disks (sym here) ∙ at) in (
+        subst (λ k. follows.world.given h.term k ≡ is.world.given h.term k) here (follows.only.given h.term le not),
+        λ b same.
+            subst (λ (b : Disk). (h.term ≤ b.files.fence) × (b.hand ≡ HasFenced h.term → ⊥)) (some_same refl same)
+            (goes_on (guest_of w.image) is.world.sent d e out goes_there knows h.term le not),
+      )
+
+  -- the world with what others learned of the act
+  abbrev WithLists : List Acknowledgement → List Handed → Type 0
+  WithLists said handed = IsTied (record w { disks = put w.disks keeper (Some e); said = said ++ w.said; handed = handed ++ w.handed })
+
+  -- it is tied where what they learned is so in the theory
+  learned : (said : List Acknowledgement) (handed : List Handed) →
+      ((a : Acknowledgement) → Contains said a → (hart : ℕ) → count_at a.counts hart ≤ follows.world.acked a.term a.keeper hart) →
+      ((h : Handed) → Contains handed h → IsGiven follows.world (guest_of w.image) (put w.disks keeper (Some e)) h) → WithLists said handed
+  learned =
+      with_lists w is keeper d (Some e) follows.world follows.only
+      (comes_by is.is_recorder.recorder (guest_of w.image) (quorum_of w) is.comes follows.events)
+      (λ b same. subst (StandsOn (guest_of w.image) follows.world keeper) (some_same refl same) follows.stands) given_once
 
   -- nothing is told to others
-  nothing_told : IsTied (record w { disks = disks })
-  nothing_told = with_lists w.said w.handed said_still handed_still
+  nothing_told : WithLists [] []
+  nothing_told = learned [] [] (λ a has. none_in [] a refl has) (λ h has. none_in [] h refl has)
 
   -- it is acknowledged up to a position
-  says_so : (p : Position) → out ≡ Says p →
-      IsTied (record w { disks = disks; said = record { term = p.term; keeper = keeper; counts = p.counts } ∷ w.said })
+  says_so : (p : Position) → out ≡ Says p → WithLists (record { term = p.term; keeper = keeper; counts = p.counts } ∷ []) []
   says_so p same =
-      with_lists (record { term = p.term; keeper = keeper; counts = p.counts } ∷ w.said) w.handed
-      (λ a has. elim (here_or_later (record { term = p.term; keeper = keeper; counts = p.counts }) w.said a has) [
-        | inl is_it ↦
-            subst (λ (a : Acknowledgement). (hart : ℕ) → count_at a.counts hart ≤ v.acked a.term a.keeper hart) is_it
-            (subst (IsToldBy (guest_of w.image) v keeper) same follows.told)
-        | inr was ↦ said_still a was
-      ])
-      handed_still
+      let one : Acknowledgement = record { term = p.term; keeper = keeper; counts = p.counts } in
+      learned (one ∷ []) []
+      (λ a has.
+      subst (λ (a : Acknowledgement). (hart : ℕ) → count_at a.counts hart ≤ follows.world.acked a.term a.keeper hart) (only_one one a has)
+      (subst (IsToldBy (guest_of w.image) follows.world keeper) same follows.told))
+      (λ h has. none_in [] h refl has)
 
   -- the log is handed over
-  hands_over : (term : ℕ) (bytes : List ℕ) → out ≡ Hands term bytes →
-      IsTied (record w { disks = disks; handed = record { keeper = keeper; term = term; bytes = bytes } ∷ w.handed })
+  hands_over : (term : ℕ) (bytes : List ℕ) → out ≡ Hands term bytes → WithLists [] (record { keeper = keeper; term = term; bytes = bytes } ∷ [])
   hands_over term bytes same =
-      with_lists w.said (record { keeper = keeper; term = term; bytes = bytes } ∷ w.handed) said_still
-      (λ h has. elim (here_or_later (record { keeper = keeper; term = term; bytes = bytes }) w.handed h has) [
-        | inl is_it ↦
-            let told : IsToldBy (guest_of w.image) v keeper (Hands term bytes) = subst (IsToldBy (guest_of w.image) v keeper) same follows.told in
-            subst (IsGiven v (guest_of w.image) disks) is_it
-            (record {
-              store = told.0;
-              given = told.1;
-              frames = told.2;
-              once = λ b there.
-                  subst (λ (b : Disk). (term ≤ b.files.fence) × (b.hand ≡ HasFenced term → ⊥)) (its_own b there)
-                  (goes_out (guest_of w.image) is.world.sent d e out term bytes goes_there knows same);
-            })
-        | inr was ↦ handed_still h was
-      ])
+      let one : Handed = record { keeper = keeper; term = term; bytes = bytes } in
+      let told : IsToldBy (guest_of w.image) follows.world keeper (Hands term bytes) =
+      subst (IsToldBy (guest_of w.image) follows.world keeper) same follows.told in
+      let disks = put w.disks keeper (Some e) in
+      learned [] (one ∷ []) (λ a has. none_in [] a refl has)
+      (λ h has.
+      subst (IsGiven follows.world (guest_of w.image) disks) (only_one one h has)
+      (record {
+        store = told.0;
+        given = told.1;
+        frames = told.2;
+        once = λ b there.
+            subst (λ (b : Disk). (term ≤ b.files.fence) × (b.hand ≡ HasFenced term → ⊥)) (some_same (put_same w.disks keeper keeper (Some e) refl) there)
+            (goes_out (guest_of w.image) is.world.sent d e out term bytes goes_there knows same);
+      }))
 
+-- an act on a keeper's disk
 pub at_keeper : (w : ProcessWorld) → IsTied w → (keeper : ℕ) (d e : Disk) (out : Out) → w.disks keeper ≡ Some d → Goes (guest_of w.image) w.frames d e out →
     IsTied (with_out (record w { disks = put w.disks keeper (Some e) }) keeper out)
 at_keeper w is keeper d e Nothing at goes = nothing_told w is keeper d e Nothing at goes
@@ -248,47 +273,26 @@ at_keeper w is keeper d e (Hands term bytes) at goes = hands_over w is keeper d 
 -- a keeper is lost
 pub loses : (w : ProcessWorld) → IsTied w → (keeper : ℕ) → IsTied (record w { disks = put w.disks keeper None })
 loses w is keeper =
-    record {
-      are_theory = is.are_theory;
-      is_recorder = is.is_recorder;
-      terms = is.terms;
-      world = theory.lost is.world keeper;
-      comes = theory.Then is.comes (theory.Lose keeper);
-      terms_are = is.terms_are;
-      is_history = is.is_history;
-      granted = is.granted;
-      leaders = λ n l there.
-          stays is.world (theory.lost is.world keeper) is.terms is.terms (guest_of w.image) w.keepers w.need l (is.leaders n l there) refl (λ k hart. omega arith)
-          (λ r has. has) (λ hart. refl) (λ hart. refl);
-      sent = is.sent;
-      standing = λ k b there. elim (same_or_not keeper k) [
-        | inl here ↦ absurd (none_some (put_same w.disks keeper k None here) there)
-        | inr other ↦
-            let was : w.disks k ≡ Some b = sym (put_other w.disks keeper k None other) ∙ there in
-            disks_stay (Books w.image.pages is.are_theory) (guest_of w.image) is.world (theory.lost is.world keeper) k b (is.standing k b was) (same_at k other) (λ f has. has)
-      ];
-      said = is.said;
-      handed = λ h has.
-          let was = is.handed h has in
-          record {
-            store = was.store;
-            given = was.given;
-            frames = was.frames;
-            once = λ b there. elim (same_or_not keeper h.keeper) [
-              | inl here ↦ absurd (none_some (put_same w.disks keeper h.keeper None here) there)
-              | inr other ↦ was.once b (sym (put_other w.disks keeper h.keeper None other) ∙ there)
-            ];
-          };
-      told = is.told;
-      heard = is.heard;
-    }
+    with_lists w is keeper nothing_there None (theory.lost is.world keeper) only (theory.Then is.comes (theory.Lose keeper))
+    (λ b none. some_none none refl) (λ h has here. (refl, λ b none. some_none none refl)) [] [] (λ a has. none_in [] a refl has)
+    (λ h has. none_in [] h refl has)
   where
-    same_at : (k : ℕ) → (keeper ≡ k → ⊥) → IsSame is.world (theory.lost is.world keeper) k
-    same_at k other =
+    -- nothing but its stores is another
+    only : OnlyKeeper is.world (theory.lost is.world keeper) keeper nothing_there
+    only =
         record {
-          stores = put_other is.world.stores keeper k None other;
-          saved = put_other is.world.saved keeper k None other;
-          fence = refl;
-          given = λ u. refl;
-          acked = λ u. refl;
+          terms = refl;
+          sent = refl;
+          released = refl;
+          notes = refl;
+          marks = refl;
+          others = λ k other. record {
+            stores = put_other is.world.stores keeper k None other;
+            saved = put_other is.world.saved keeper k None other;
+            fence = refl;
+            given = λ u. refl;
+            acked = λ u. refl;
+          };
+          acked = λ u hart. omega arith;
+          given = λ u le not. refl;
         }

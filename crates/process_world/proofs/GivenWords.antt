@@ -1,14 +1,15 @@
 -- What a tied world's machines were given over all terms are the clients' words.
-use Rattle.std.proofs.Common.{◌≡◌, inl, inr, ℕ, zero, suc, ◌+◌, ◌<◌, ◌≤◌, List, [], ◌++◌, Some, length, slice_get, refl, sym, ap, subst, ◌∙◌, arith, length-append}
+use Rattle.std.proofs.Common.{◌≡◌, inl, inr, ℕ, zero, suc, ◌+◌, ◌<◌, ◌≤◌, List, [], ◌++◌, Some, length, slice_get, refl, sym, ap, subst, ◌∙◌, arith}
+use Rattle.std.proofs.Common.{length-append}
 use Rattle.ft_types.specs.Counts.{count_at}
 use Rattle.hart_lease.specs.Runs.{counts_of}
 use Rattle.word_sequences.specs.Sequences.{sequence_of, words_below}
+use Rattle.fenced_theory.proofs.Growing.{some_same}
 use Rattle.leading.specs.Clients.{AreFrom}
 use Rattle.process_world.specs.Worlds.{Led, ProcessWorld}
 use Rattle.process_world.specs.Words.{AreWords, AskByNumber, GivenTo, AtBoot, InTerm}
 use Rattle.process_world.specs.machinery.Tied.{IsTied}
 use Rattle.process_world.specs.machinery.Worded.{AreWorded, BookWords}
-use Rattle.process_world.proofs.Lists.{some_same}
 use Rattle.process_world.proofs.Rows.{from_more}
 use Rattle.process_world.proofs.Chain.{ComesFrom, begun_with, its_words, no_boot, origin}
 use Rattle.process_world.proofs.Sequences.{at_end}

@@ -1,21 +1,25 @@
 -- What was handed over to a term was given to it: a join of it is of the world's terms and has what each keeper gave, and there are enough of them.
-use Rattle.std.proofs.Common.{◌≡◌, inl, inr, ℕ, zero, suc, ◌+◌, ◌-◌, ◌<◌, ◌==◌, ◌||◌, Bool, true, false, cond, List, [], ◌∷◌, map, Contains, slice_index_or, if◌then◌else◌, Some, refl, sym, ap, subst, ◌∙◌, arith}
+use Rattle.std.proofs.Common.{◌≡◌, inl, inr, ℕ, zero, suc, ◌+◌, ◌<◌, ◌==◌, ◌||◌, Bool, true, false, cond, List, [], ◌∷◌, map, Contains, slice_index_or}
+use Rattle.std.proofs.Common.{if◌then◌else◌}
+use Rattle.std.proofs.Common.{Some, refl, sym, ap, subst, ◌∙◌, arith}
 use Rattle.std.specs.Prelude.{All}
 use Rattle.std.specs.List.{list_any}
 use Rattle.std.proofs.lemmas.Bool.Decides.{eqb_tells}
 use Rattle.std.proofs.lemmas.List.Elements.{All-nil, All-cons, All-head, All-tail, All-map, All-contains, Contains-append_right}
 use Rattle.interleaving.proofs.Cuts.{here}
+use Rattle.ft_types.specs.Guests.{GuestParts}
 use Rattle.guest_image.specs.Image.{guest_of}
 use Rattle.fragment_codec.specs.declared.frame.Frame.{Frame}
+use Rattle.fragment_codec.specs.Streams.{Splits}
 use Rattle.log_join.specs.Coming.{IsJoinOf}
 use Rattle.log_join.specs.Families.{HonestStore, Below}
 use Rattle.log_join.specs.Stores.{StoreView, nothing}
 use Rattle.log_join.proofs.Families.{honest_nothing}
-use Rattle.hart_replay.specs.Primaries.{term_of as history_of}
 use Rattle.fenced_theory.specs.Lists.{how_many}
 use Rattle.fenced_theory.specs.Worlds.{HasGiven}
 use Rattle.fenced_theory.proofs.Events.{always}
 use Rattle.fenced_keeper.specs.declared.keeper.Given.{Given}
+use Rattle.keeper_disks.specs.Standing.{HasFrames}
 use Rattle.keeper_disks.proofs.Comings.{come_same}
 use Rattle.keeper_disks.proofs.Frames.{whole_one}
 use Rattle.go_live.specs.Histories.{AreOfHistory}
@@ -23,11 +27,12 @@ use Rattle.go_live.specs.Joined.{AreJoined}
 use Rattle.go_live.specs.Quorums.{distinct_below, AreEnough}
 use Rattle.go_live.proofs.Joins.{joined_guest}
 use Rattle.leading.specs.Beginning.{stores_in, givers_in}
-use Rattle.failover_world.specs.machinery.Tied.{TermBook, history, told_as}
+use Rattle.failover_world.specs.machinery.Tied.{history}
 use Rattle.failover_world.proofs.Chosen.{joined_has, honest_retold}
 use Rattle.process_world.specs.Worlds.{ProcessWorld}
 use Rattle.process_world.specs.Happenings.{WasHanded}
 use Rattle.process_world.specs.machinery.Tied.{quorum_of, IsTied}
+use Rattle.process_world.proofs.Seats.{tell, told}
 
 -- ---- who gave
 
@@ -36,7 +41,7 @@ abbrev pub gave : List Given → ℕ → Bool
 gave given keeper = list_any (λ n. n == keeper) (givers_in given)
 
 -- what it gave
-pub gift_of : (given : List Given) (keeper : ℕ) → gave given keeper ≡ true → (g : Given) × Contains given g × (g.keeper ≡ keeper)
+gift_of : (given : List Given) (keeper : ℕ) → gave given keeper ≡ true → (g : Given) × Contains given g × (g.keeper ≡ keeper)
 gift_of [] keeper is = cc
 gift_of (g ∷ given) keeper is =
     elim (eqb_tells g.keeper keeper) [
@@ -67,15 +72,19 @@ told_all f Q (x ∷ xs) all = All-cons (λ x. Q (f x)) x xs (All-head Q (f x) (m
 
 -- ---- what they gave
 
+-- the store of whole frames is the join of whatever frames the bytes are
+pub one_join : (guest : GuestParts) (sent : List Frame) (bytes : List ℕ) (s t : StoreView) (frames : List Frame) → HasFrames guest sent bytes [] s →
+    Splits bytes frames [] → IsJoinOf guest frames t → s ≡ t
+one_join guest sent bytes s t frames has splits join =
+    come_same (nothing guest) (nothing guest) frames s t refl
+    (subst (λ (fs : List Frame). IsJoinOf guest fs s) (whole_one bytes has.frames frames has.splits splits) has.join) join
+
 module _ (w : ProcessWorld) (is : IsTied w) (term : ℕ) (given : List Given) (handed : All (WasHanded w term) given) where
   -- what was handed over is what the keeper gave
-  pub was_given : (g : Given) → WasHanded w term g → is.world.given term g.keeper ≡ Some g.store.now
+  was_given : (g : Given) → WasHanded w term g → is.world.given term g.keeper ≡ Some g.store.now
   was_given g was =
       let h = is.handed (record { keeper = g.keeper; term = term; bytes = was.bytes }) was.there in
-      let same = whole_one was.bytes h.frames.frames was.frames h.frames.splits was.splits in
-      h.given
-      ∙ ap Some (come_same (nothing (guest_of w.image)) (nothing (guest_of w.image)) was.frames h.store g.store.now refl
-      (subst (λ (fs : List Frame). IsJoinOf (guest_of w.image) fs h.store) same h.frames.join) was.join)
+      h.given ∙ ap Some (one_join (guest_of w.image) is.world.sent was.bytes h.store g.store.now was.frames h.frames was.splits was.join)
 
   -- which is of the world's terms
   is_honest : (g : Given) → WasHanded w term g → HonestStore is.world.terms g.store.now
@@ -92,8 +101,7 @@ module _ (w : ProcessWorld) (is : IsTied w) (term : ℕ) (given : List Given) (h
       record {
         is_history = is.is_history;
         each = λ k d less.
-            honest_retold (told_as w.image.pages is.are_theory) (λ (t : TermBook w.image.pages). history_of t.book) is.terms
-            (slice_index_or (stores_in given) k d)
+            honest_retold (told w is) (tell w is) is.terms (slice_index_or (stores_in given) k d)
             (subst (λ terms. HonestStore terms (slice_index_or (stores_in given) k d)) is.terms_are (all_honest k d less));
       }
 

@@ -1,5 +1,6 @@
 -- A primary goes live, from logs that were handed over to its term: the world stays tied to the theory, while older primaries run on.
-use Rattle.std.proofs.Common.{◌≡◌, inl, inr, ℕ, zero, suc, ◌<◌, ◌≤◌, List, [], ◌∷◌, ◌++◌, length, map, replicate, slice_get, get_or, Contains, Option, Some, None, refl, sym, ap, subst, ◌∙◌, arith}
+use Rattle.std.proofs.Common.{◌≡◌, inl, inr, ℕ, zero, suc, ◌<◌, ◌≤◌, List, [], ◌∷◌, ◌++◌, length, map, replicate, slice_get, get_or, Option, Some, None, refl}
+use Rattle.std.proofs.Common.{sym, ap, subst, ◌∙◌, arith}
 use Rattle.std.specs.Prelude.{All}
 use Rattle.std.specs.List.{range_with_len}
 use Rattle.std.proofs.lemmas.List.Elements.{Contains-append_left}
@@ -12,7 +13,7 @@ use Rattle.interleaving.specs.Machine.{Turn, at}
 use Rattle.interleaving.specs.Stored.{system_of, view}
 use Rattle.interleaving.proofs.Put.{put_same, put_other}
 use Rattle.input_log.specs.declared.Input.{Input}
-use Rattle.rv32_hart.specs.Hart.{Hart, boot_hart}
+use Rattle.rv32_hart.specs.Hart.{boot_hart}
 use Rattle.rv32_hart.specs.Hardware.{hardware}
 use Rattle.guest_image.specs.Image.{guest_of}
 use Rattle.guest_image.specs.Machine.{boot_machine}
@@ -20,42 +21,42 @@ use Rattle.hart_lease.specs.Runs.{LeadsTo, counts_of, journal_turns}
 use Rattle.page_book.specs.Books.{BookView}
 use Rattle.book_modes.specs.Hearings.{HartMachine}
 use Rattle.book_modes.specs.Recordings.{RecordingView, heard_by}
-use Rattle.fragment_codec.specs.declared.frame.Frame.{Frame}
 use Rattle.fragment_codec.specs.declared.frame.Frame.TheVariants.{Opening}
 use Rattle.fragment_codec.specs.Rules.{OpeningParts, IsOpening}
 use Rattle.log_join.specs.Families.{Past, Family}
-use Rattle.hart_replay.specs.Histories.{TermHistory, IsTerm, machine_in}
+use Rattle.hart_replay.specs.Histories.{IsTerm, machine_in}
 use Rattle.hart_replay.specs.Images.{GuestTerm, IsHistoryOf, machine_of, boot_of}
 use Rattle.hart_replay.specs.Plans.{noted_in}
-use Rattle.hart_replay.specs.Primaries.{IsTermOfBook, unsealed, term_of as history_of}
+use Rattle.hart_replay.specs.Primaries.{IsTermOfBook, unsealed}
 use Rattle.hart_replay.proofs.honesty.Replays.{legs_keep_pages, boot_pages}
 use Rattle.hart_replay.proofs.honesty.Sealing.{unsealed_is_of_book}
+use Rattle.closed_cut.proofs.Chains.{zero_row}
 use Rattle.fenced_theory.specs.Machines.{BookFact, AreTidy, AtBoot, AtCut}
 use Rattle.fenced_theory.specs.Worlds as theory
 use Rattle.fenced_theory.proofs.Events.{always}
+use Rattle.fenced_theory.proofs.Growing.{some_same, some_none}
 use Rattle.fenced_theory.proofs.Invariant.{Invariant}
 use Rattle.fenced_theory.proofs.Stores.{see}
 use Rattle.book_recorder.specs.TermBooks.{outputs_of, IsTermBook, IsRevived}
 use Rattle.book_recorder.proofs.Books.{revived_are_term_books}
 use Rattle.output_gate.specs.Gates.{gone_of}
-use Rattle.term_gate.specs.TermGates.{TermGateView, acked_at}
+use Rattle.term_gate.specs.TermGates.{acked_at}
 use Rattle.primary.specs.declared.granted.Primary.{Primary}
 use Rattle.primary.specs.Primaries.{BeginsFrom}
 use Rattle.primary.proofs.Waiting.{all_stay}
 use Rattle.fenced_keeper.specs.declared.keeper.Given.{Given}
-use Rattle.keeper_disks.proofs.Standings.{disks_stay}
 use Rattle.go_live.specs.Beginnings.{GoesLive, BeginsTerm}
 use Rattle.go_live.proofs.Joins.{joined_below}
 use Rattle.leading.specs.Beginning.{GoesLiveGiven, stores_in, givers_in}
 use Rattle.leading.specs.Leaders.{LeaderView}
-use Rattle.failover_world.specs.machinery.Tied.{TermBook, Books, retold, retold_in, history, told_as}
+use Rattle.failover_world.specs.machinery.Tied.{TermBook, Books, retold, retold_in, history}
 use Rattle.failover_world.proofs.Marks.{are_marks}
 use Rattle.failover_world.proofs.Places.{retold_put}
 use Rattle.process_world.specs.Worlds.{ProcessWorld, IsNotGranted, led_as}
 use Rattle.process_world.specs.Happenings.{WasHanded}
-use Rattle.process_world.specs.machinery.Tied.{quorum_of, past_of, IsLeader, IsTied}
-use Rattle.process_world.proofs.Lists.{some_same, none_some, push_cases}
-use Rattle.process_world.proofs.Seats.{stays, one_leader, granted_more, given_stays}
+use Rattle.process_world.specs.machinery.Tied.{quorum_of, past_of, IsTied}
+use Rattle.process_world.proofs.Lists.{none_in, push_cases}
+use Rattle.process_world.proofs.Seats.{stays, one_leader, granted_more, moved, Theory, ComesIn, IsNow, tell, told, in_world}
 use Rattle.process_world.proofs.Giving.{gave, enough, honest, all_given}
 
 -- ---- what a primary begins with
@@ -68,21 +69,10 @@ none_out harts (n ∷ numbers) zero = refl
 none_out harts (n ∷ numbers) (suc hart) = none_out harts numbers hart
 
 -- nothing was acknowledged
-none_acked : (n k : ℕ) (row : List ℕ) → ((hart : ℕ) → count_at row hart ≡ 0) → (hart : ℕ) → count_at (get_or (replicate n row) k []) hart ≡ 0
-none_acked zero k row none hart = refl
-none_acked (suc n) zero row none hart = none hart
-none_acked (suc n) (suc k) row none hart = none_acked n k row none hart
-
--- and each hart's count is 0
-no_counts : (n hart : ℕ) → count_at (replicate n 0) hart ≡ 0
-no_counts zero hart = refl
-no_counts (suc n) zero = refl
-no_counts (suc n) (suc hart) = no_counts n hart
-
--- so the gate knows of no acknowledgement
-fresh_acked : (gate : TermGateView) (keepers harts : ℕ) → gate.acked ≡ replicate keepers (replicate harts 0) → (k hart : ℕ) → acked_at gate k hart ≡ 0
-fresh_acked gate keepers harts fresh k hart =
-    ap (λ rows. count_at (get_or rows k []) hart) fresh ∙ none_acked keepers k (replicate harts 0) (no_counts harts) hart
+none_acked : (keepers harts k hart : ℕ) → count_at (get_or (replicate keepers (replicate harts 0)) k []) hart ≡ 0
+none_acked zero harts k hart = refl
+none_acked (suc keepers) harts zero hart = zero_row harts hart
+none_acked (suc keepers) harts (suc k) hart = none_acked keepers harts k hart
 
 -- its journal leads to its machine where nothing is settled
 begun_led : (book : BookView RecordingView) → BeginsFrom book.start book → LeadsTo (heard_by book.mode) book.start book.journal book.machine
@@ -90,14 +80,11 @@ begun_led book begins =
     subst (λ journal. LeadsTo (heard_by book.mode) book.start journal book.machine) (sym (ap (λ (b : BookView RecordingView). b.journal) begins))
     (ap Some (sym (ap (λ (b : BookView RecordingView). b.machine) begins)))
 
--- nothing is in no list
-not_in : {A : Type 0} (xs : List A) (x : A) → xs ≡ [] → Contains xs x → ⊥
-not_in xs x none has = let (k, below, is) : Contains [] x = subst (λ ys. Contains ys x) none has in absurd (omega (arith, below))
-
 module _ (w : ProcessWorld) (is : IsTied w) (term : ℕ) (given : List Given) (l : LeaderView) (new : IsNotGranted w term)
     (handed : All (WasHanded w term) given)
     (live : GoesLive w.image w.keepers w.need term (givers_in given) (stores_in given) l.primary l.gate)
     (begins : BeginsTerm w.image term (stores_in given) l.primary) where
+  -- the primary
   abbrev p : Primary
   p = l.primary
 
@@ -105,15 +92,9 @@ module _ (w : ProcessWorld) (is : IsTied w) (term : ℕ) (given : List Given) (l
   abbrev position : Position
   position = live.at.position
 
+  -- by hart, the counts there
   abbrev cut : ℕ → ℕ
   cut = count_at live.at.position.counts
-
-  -- what a book tells of its term, and how the theory has it
-  abbrev tell : TermBook w.image.pages → TermHistory (Option Hart) (Option (List ℕ))
-  tell t = history_of t.book
-
-  abbrev told : TermBook w.image.pages → Books w.image.pages is.are_theory
-  told = told_as w.image.pages is.are_theory
 
   -- its base are the counts with which its book begins
   base : (hart : ℕ) → count_at p.opening.base hart ≡ counts_of p.book.start hart
@@ -154,7 +135,7 @@ module _ (w : ProcessWorld) (is : IsTied w) (term : ℕ) (given : List Given) (l
   -- that is boot's where the position's term was not granted
   from_boot : is.terms position.term ≡ None → view (hardware w.image.pages) p.book.start ≡ boot_of w.image
   from_boot none =
-      starts ∙ ap (λ (t : Option GuestTerm). machine_in (system_of (hardware w.image.pages)) (boot_of w.image) t cut) (ap (retold_in tell) none)
+      starts ∙ ap (λ (t : Option GuestTerm). machine_in (system_of (hardware w.image.pages)) (boot_of w.image) t cut) (ap (retold_in (tell w is)) none)
 
   -- where nothing was put out
   tidy_at_boot : is.terms position.term ≡ None → (hart : ℕ) → AreTidy (counts_of p.book.start hart) (outputs_of (slice_get p.book.start.harts hart))
@@ -167,33 +148,35 @@ module _ (w : ProcessWorld) (is : IsTied w) (term : ℕ) (given : List Given) (l
   abbrev past : GuestTerm
   past = unsealed p.opening p.book
 
+  -- it is the term of the book
   of_book : IsTermOfBook p.book past
   of_book = unsealed_is_of_book p.book p.opening base
 
   -- it makes the history longer
   longer : IsHistoryOf w.image (put (history is.terms) term (Some past))
   longer =
-      begins.longer (history is.terms) (honest w is term given handed) (ap (retold_in tell) not_granted) p.book past refl begins.primary of_book refl
+      begins.longer (history is.terms) (honest w is term given handed) (ap (retold_in (tell w is)) not_granted) p.book past refl begins.primary of_book refl
 
+  -- and a term of the longer history
   new_term : IsTerm (system_of (hardware w.image.pages)) (boot_of w.image) (put (history is.terms) term (Some past)) term past
   new_term = longer.is_history.terms term past (put_same (history is.terms) term term (Some past) refl)
 
   module _ (q : Past (TermBook w.image.pages)) (there : is.terms position.term ≡ Some q) where
     -- the term that it goes on from, in the theory
-    there_told : is.world.terms position.term ≡ Some (retold told q)
-    there_told = ap (λ f. f position.term) is.terms_are ∙ ap (retold_in told) there
+    there_told : is.world.terms position.term ≡ Some (retold (told w is) q)
+    there_told = in_world w is position.term (Some q) there
 
     -- the new book begins at a closed cut of its log
-    its_cut : IsCut (tell q.told).log (counts_of p.book.start)
+    its_cut : IsCut (tell w is q.told).log (counts_of p.book.start)
     its_cut =
         elim new_term.place [
-          | inl boot ↦ absurd (none_some kept.family.none (ap is.world.terms (sym boot ∙ parent) ∙ there_told))
+          | inl boot ↦ some_none (ap is.world.terms (sym boot ∙ parent) ∙ there_told) kept.family.none
           | inr (was, at, closed) ↦
               let older : p.opening.parent < term = new_term.older in
               let same =
               some_same at
               (put_other (history is.terms) term p.opening.parent (Some past) (λ e. absurd (omega (arith, older, e)))
-              ∙ ap (history is.terms) parent ∙ ap (retold_in tell) there) in
+              ∙ ap (history is.terms) parent ∙ ap (retold_in (tell w is)) there) in
               subst (λ (t : GuestTerm). IsCut t.told.log (counts_of p.book.start)) same closed
         ]
 
@@ -205,7 +188,7 @@ module _ (w : ProcessWorld) (is : IsTied w) (term : ℕ) (given : List Given) (l
           within = λ hart. subst (λ n. n ≤ counts_of q.told.book.machine hart) (live.at.replayed.counts hart) (its_cut.to_end hart);
           start =
               starts
-              ∙ ap (λ (t : Option GuestTerm). machine_in (system_of (hardware w.image.pages)) (boot_of w.image) t cut) (ap (retold_in tell) there)
+              ∙ ap (λ (t : Option GuestTerm). machine_in (system_of (hardware w.image.pages)) (boot_of w.image) t cut) (ap (retold_in (tell w is)) there)
               ∙ ap
               (λ (n : ℕ). at (system_of (hardware w.image.pages)) (view (hardware n) q.told.book.start)
               (journal_turns (heard_by q.told.book.mode) q.told.book.start q.told.book.journal) cut) q.told.is.many;
@@ -222,6 +205,7 @@ module _ (w : ProcessWorld) (is : IsTied w) (term : ℕ) (given : List Given) (l
 
   -- ---- in the theory
 
+  -- the book, in the theory
   abbrev now : Books w.image.pages is.are_theory
   now = is.are_theory.book p.book own_book
 
@@ -230,7 +214,7 @@ module _ (w : ProcessWorld) (is : IsTied w) (term : ℕ) (given : List Given) (l
   begun_at_boot none =
       let fact : BookFact (system_of (hardware w.image.pages)) is.are_theory.outs (boot_of w.image) =
       AtBoot now (is.are_theory.from p.book own_book ∙ from_boot none) in
-      theory.AtBoot (ap (λ f. f position.term) is.terms_are ∙ ap (retold_in told) none) (fact, is.is_recorder.tells fact)
+      theory.AtBoot (in_world w is position.term None none) (fact, is.is_recorder.tells fact)
 
   -- or at the cut of the older book
   begun_at_cut : (q : Past (TermBook w.image.pages)) → is.terms position.term ≡ Some q →
@@ -249,8 +233,9 @@ module _ (w : ProcessWorld) (is : IsTied w) (term : ℕ) (given : List Given) (l
       is.are_theory.turns p.book own_book
       ∙ ap (λ (b : BookView RecordingView). journal_turns (heard_by p.book.mode) p.book.start b.journal) live.begins
       ) in
-      theory.AtCut (retold told q) (there_told q there) (fact, is.is_recorder.tells fact)
+      theory.AtCut (retold (told w is) q) (there_told q there) (fact, is.is_recorder.tells fact)
 
+  -- so it begins at the position
   begun : theory.BeginsAt is.is_recorder.recorder is.world.terms position now
   begun = elim (see (is.terms position.term)) [ inl none ↦ begun_at_boot none | inr (q, there) ↦ begun_at_cut q there ]
 
@@ -262,14 +247,15 @@ module _ (w : ProcessWorld) (is : IsTied w) (term : ℕ) (given : List Given) (l
   abbrev marks : ℕ → ℕ
   marks hart = noted_in live.at.replayed.legs hart
 
-  abbrev after : theory.World (Books w.image.pages is.are_theory)
+  -- the world in which the term is granted
+  abbrev after : Theory w is
   after = theory.granted (guest_of w.image) is.world term position now marks
 
   -- the theory grants the term
-  in_theory : theory.Comes is.is_recorder.recorder (guest_of w.image) (quorum_of w) after
+  in_theory : ComesIn w is after
   in_theory =
       theory.Then is.comes
-      (theory.Grant term (gave given) live.at.joined position now marks (ap (λ f. f term) is.terms_are ∙ ap (retold_in told) not_granted) has
+      (theory.Grant term (gave given) live.at.joined position now marks (in_world w is term None not_granted) has
       (enough w.keepers w.need given live.enough)
       (λ other o one. joined_below (guest_of w.image) (stores_in given) term live.at.joined live.new live.at.are_joined other o one)
       live.at.replayed.is_position (subst IsOpening live.at.opened begins.rules) begun
@@ -282,22 +268,23 @@ module _ (w : ProcessWorld) (is : IsTied w) (term : ℕ) (given : List Given) (l
   abbrev new_past : Past (TermBook w.image.pages)
   new_past = past_of p (λ hart. []) own_book
 
+  -- the family with it
   abbrev terms : Family (TermBook w.image.pages)
   terms = put is.terms p.opening.term (Some new_past)
 
   -- the theory's terms are the books'
-  terms_now : after.terms ≡ (λ u. retold_in told (terms u))
+  terms_now : after.terms ≡ (λ u. retold_in (told w is) (terms u))
   terms_now =
       ap (λ f. put f term (Some (theory.new_term (guest_of w.image) term position now))) is.terms_are
       ∙ ap
-      (λ (o : OpeningParts). put (λ u. retold_in told (is.terms u)) o.term
+      (λ (o : OpeningParts). put (λ u. retold_in (told w is) (is.terms u)) o.term
       (Some (let x : Past (Books w.image.pages is.are_theory) = record { opening = o; told = now; pieces = λ hart. [] } in x))) (sym live.at.opened)
-      ∙ sym (retold_put told is.terms p.opening.term (Some new_past))
+      ∙ sym (retold_put (told w is) is.terms p.opening.term (Some new_past))
 
   -- and a history
   history_now : IsHistoryOf w.image (history terms)
   history_now =
-      subst (IsHistoryOf w.image) (sym (retold_put tell is.terms p.opening.term (Some new_past)))
+      subst (IsHistoryOf w.image) (sym (retold_put (tell w is) is.terms p.opening.term (Some new_past)))
       (subst (λ t. IsHistoryOf w.image (put (history is.terms) t (Some past))) (sym is_term) longer)
 
   -- the opening was sent
@@ -306,15 +293,10 @@ module _ (w : ProcessWorld) (is : IsTied w) (term : ℕ) (given : List Given) (l
       ap (λ fs. fs ++ Opening (theory.new_opening (guest_of w.image) term position) ∷ []) is.sent
       ∙ ap (λ (o : OpeningParts). w.frames ++ Opening o ∷ []) (sym live.at.opened)
 
-  -- and all that was sent before
-  still_sent : (f : Frame) → Contains is.world.sent f → Contains after.sent f
-  still_sent f has = Contains-append_left is.world.sent (Opening (theory.new_opening (guest_of w.image) term position) ∷ []) f has
-
   -- ---- the primaries
 
   -- what was known of those of other terms is known still
-  other_stays : (k : LeaderView) → (term ≡ k.primary.opening.term → ⊥) → IsLeader is.world is.terms (guest_of w.image) w.keepers w.need k →
-      IsLeader after terms (guest_of w.image) w.keepers w.need k
+  other_stays : (k : LeaderView) → (term ≡ k.primary.opening.term → ⊥) → IsNow w is is.world is.terms k → IsNow w is after terms k
   other_stays k apart was =
       stays is.world after is.terms terms (guest_of w.image) w.keepers w.need k was
       (put_other is.terms p.opening.term k.primary.opening.term (Some new_past) (λ e. apart (sym is_term ∙ e)))
@@ -323,7 +305,7 @@ module _ (w : ProcessWorld) (is : IsTied w) (term : ℕ) (given : List Given) (l
       (λ hart. ap (λ f. f hart) (put_other is.world.marks term k.primary.opening.term marks apart))
 
   -- the new one knows of nothing that was done in its term
-  own_leader : l.released ≡ [] → IsLeader after terms (guest_of w.image) w.keepers w.need l
+  own_leader : l.released ≡ [] → IsNow w is after terms l
   own_leader quiet =
       record {
         within =
@@ -340,9 +322,12 @@ module _ (w : ProcessWorld) (is : IsTied w) (term : ℕ) (given : List Given) (l
         of_term = live.gate.of_term ∙ sym is_term;
         offered = all_stay l.gate.gate p.book.machine live.offered;
         led = begun_led p.book live.begins;
-        acked = λ keeper hart. let none = fresh_acked l.gate w.keepers w.image.harts live.gate.acked keeper hart in omega (arith, none);
-        released = λ r has. absurd (not_in l.released r quiet has);
-        gone = λ hart o has. absurd (not_in (gone_of l.gate.gate hart) o (live.gate.gone hart) has);
+        acked = λ keeper hart.
+            let none : acked_at l.gate keeper hart ≡ 0 =
+            ap (λ rows. count_at (get_or rows keeper []) hart) live.gate.acked ∙ none_acked w.keepers w.image.harts keeper hart in
+            omega (arith, none);
+        released = λ r has. none_in l.released r quiet has;
+        gone = λ hart o has. none_in (gone_of l.gate.gate hart) o (live.gate.gone hart) has;
         noted = λ hart.
             ap (λ f. f hart) (put_same is.world.notes term p.opening.term (λ hart. []) (sym is_term)) ∙ sym (live.unused.notes hart);
         marked = λ hart.
@@ -351,38 +336,20 @@ module _ (w : ProcessWorld) (is : IsTied w) (term : ℕ) (given : List Given) (l
       }
 
   -- so each is in the theory's world
-  leaders_now : l.released ≡ [] → (n : ℕ) (k : LeaderView) → slice_get (w.led ++ led_as l ∷ []) n ≡ Some (led_as k) →
-      IsLeader after terms (guest_of w.image) w.keepers w.need k
+  leaders_now : l.released ≡ [] → (n : ℕ) (k : LeaderView) → slice_get (w.led ++ led_as l ∷ []) n ≡ Some (led_as k) → IsNow w is after terms k
   leaders_now quiet n k at =
       elim (push_cases w.led (led_as l) n (led_as k) at) [
         | inl was ↦ other_stays k (λ e. new n (led_as k) was (sym e)) (is.leaders n k was)
-        | inr (last, same) ↦
-            subst (λ (k : LeaderView). IsLeader after terms (guest_of w.image) w.keepers w.need k) (one_leader l k same) (own_leader quiet)
+        | inr (last, same) ↦ subst (IsNow w is after terms) (one_leader l k same) (own_leader quiet)
       ]
 
   -- nothing of what keepers have, said or gave is another
   tied : l.released ≡ [] → IsTied (record w { led = w.led ++ led_as l ∷ []; frames = w.frames ++ Opening l.primary.opening ∷ [] })
   tied quiet =
-      record {
-        are_theory = is.are_theory;
-        is_recorder = is.is_recorder;
-        terms = terms;
-        world = after;
-        comes = in_theory;
-        terms_are = terms_now;
-        is_history = history_now;
-        granted =
-            granted_more is.terms w.led (led_as l) new_past is.granted (λ n k at same. new n k at (sym same ∙ is_term)) refl refl;
-        leaders = leaders_now quiet;
-        sent = sent_now;
-        standing = λ keeper d at.
-            disks_stay (Books w.image.pages is.are_theory) (guest_of w.image) is.world after keeper d (is.standing keeper d at)
-            (record { stores = refl; saved = refl; fence = refl; given = λ u. refl; acked = λ u. refl }) still_sent;
-        said = is.said;
-        handed = λ h has. given_stays is.world after (guest_of w.image) w.disks h refl still_sent (is.handed h has);
-        told = is.told;
-        heard = is.heard;
-      }
+      moved w is (w.led ++ led_as l ∷ []) (w.frames ++ Opening l.primary.opening ∷ []) w.told w.clients w.asked terms after.terms after.sent
+      after.released after.notes after.marks in_theory terms_now history_now
+      (granted_more is.terms w.led (led_as l) new_past is.granted (λ n k at same. new n k at (sym same ∙ is_term)) refl refl) (leaders_now quiet) sent_now
+      (λ f has. Contains-append_left is.world.sent (Opening (theory.new_opening (guest_of w.image) term position) ∷ []) f has) is.told is.heard
 
 -- a primary goes live
 pub goes_live : (w : ProcessWorld) (is : IsTied w) (term : ℕ) (quorum : Quorum) (given : List Given) (l : LeaderView) → IsNotGranted w term →

@@ -1,5 +1,5 @@
 -- What went out in a term is noted in the theory, hart by hart.
-use Rattle.std.proofs.Common.{◌≡◌, ◌⊎◌, inl, inr, ℕ, zero, suc, ◌+◌, ◌<◌, ◌≤◌, min, Bool, true, false, cond, nat_lt, List, [], ◌∷◌, ◌++◌, filter, Contains}
+use Rattle.std.proofs.Common.{◌≡◌, ◌⊎◌, inl, inr, ℕ, zero, suc, ◌+◌, ◌<◌, ◌≤◌, min, Bool, true, false, cond, nat_lt, List, [], ◌∷◌, ◌++◌, filter}
 use Rattle.std.proofs.Common.{Some, None, refl, sym, ap, subst, ◌∙◌, arith, lt-ltb}
 use Rattle.std.proofs.lemmas.Bool.{cases_lt}
 use Rattle.std.proofs.lemmas.List.Elements.{Contains-append_left, Contains-append_cases}
@@ -17,13 +17,9 @@ use Rattle.fenced_theory.proofs.Stores.{see}
 use Rattle.primary.specs.Noting.{last_of, noted_to}
 use Rattle.primary.proofs.Put.{put_own, put_put}
 use Rattle.failover_world.proofs.Noting.{in_filter, to_filter}
+use Rattle.process_world.proofs.Lists.{only_one}
 
 -- ---- one note more
-
--- the only one of a list
-only_one : {A : Type 0} (x y : A) → Contains (x ∷ []) y → x ≡ y
-only_one x y (zero, below, same) = same
-only_one x y (suc k, below, same) = absurd (omega (arith, below))
 
 -- what a hart's log does with a note is what the theory's does
 is_noting : (old : List (ℕ × ℕ)) (count number : ℕ) → IsNoting old count number (noted old count number)

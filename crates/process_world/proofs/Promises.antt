@@ -7,32 +7,31 @@ use Rattle.fragment_codec.specs.declared.frame.Frame.{Frame}
 use Rattle.fragment_codec.specs.declared.frame.Frame.TheVariants.{Log, Opening}
 use Rattle.fragment_codec.specs.Rules.{OpeningParts}
 use Rattle.fragment_codec.specs.Streams.{Splits}
-use Rattle.hart_replay.specs.Histories.{TermHistory}
-use Rattle.hart_replay.specs.Primaries.{term_of as history_of}
 use Rattle.log_join.specs.Coming.{IsJoinOf}
 use Rattle.log_join.specs.Families.{Past, OfFamily}
-use Rattle.log_join.specs.Stores.{StoreView, nothing}
-use Rattle.rv32_hart.specs.Hart.{Hart}
+use Rattle.log_join.specs.Stores.{StoreView}
 use Rattle.fenced_theory.specs.Families.{Keeps, Here as IsHere, Above as IsAbove, IsInside as IsInsideThere}
 use Rattle.fenced_theory.specs.Laws.{has_acked}
 use Rattle.fenced_theory.specs.Recorders.{Output}
 use Rattle.fenced_theory.specs.Worlds.{Released}
+use Rattle.fenced_theory.proofs.Growing.{some_same}
 use Rattle.keeper_disks.specs.Disks.{Disk}
-use Rattle.keeper_disks.proofs.Frames.{whole_one}
-use Rattle.keeper_disks.proofs.Comings.{come_same}
 use Rattle.leading.specs.Leaders.{LeaderView}
 use Rattle.primary.specs.Outputs.{said_at}
 use Rattle.wire.specs.declared.answers.Answer.{Answer}
-use Rattle.failover_world.specs.machinery.Tied.{TermBook, retold_in, history, told_as}
+use Rattle.failover_world.specs.machinery.Tied.{retold_in, history}
 use Rattle.failover_world.proofs.Chosen.{opening_retold, piece_retold}
 use Rattle.failover_world.proofs.Promises.{untold}
 use Rattle.process_world.specs.Worlds.{Led, ProcessWorld, Leads}
 use Rattle.process_world.specs.Promises.{IsInChain, Here, Above, IsInside, IsOnDisks, WentOut, IsOne, AreHonest, AreNotesOut, KeepsPromises}
 use Rattle.process_world.specs.machinery.Tied.{told_by, IsTold, IsTied}
 use Rattle.process_world.specs.machinery.Worded.{AreWorded}
-use Rattle.process_world.proofs.Lists.{some_same}
+use Rattle.process_world.proofs.Seats.{tell, told}
+use Rattle.process_world.proofs.Giving.{one_join}
+use Rattle.process_world.proofs.Terms.{own, past_now, there_now}
+use Rattle.process_world.proofs.Releasing.{of_machine}
+use Rattle.process_world.proofs.Laws.{always_is, laws, notes, its_term, its_primary}
 use Rattle.process_world.proofs.GivenWords.{are_words}
-use Rattle.process_world.proofs.Laws.{always_is, laws, notes, its_term, its_primary, past_now, there_now, of_machine}
 
 -- what is told of the terms says nothing of frames
 frame_retold : {A B C : Type 0} (f : A → B) (g : A → C) (terms : ℕ → Option (Past A)) (frame : Frame) →
@@ -53,9 +52,6 @@ told_so released a t =
 module _ (w : ProcessWorld) (is : IsTied w) where
   -- ---- what was sent
 
-  abbrev tell : TermBook w.image.pages → TermHistory (Option Hart) (Option (List ℕ))
-  tell t = history_of t.book
-
   -- all that was sent is of the history that the terms' books tell
   are_honest : AreHonest w
   are_honest =
@@ -63,12 +59,12 @@ module _ (w : ProcessWorld) (is : IsTied w) where
         history = history is.terms;
         is_history = is.is_history;
         sent = λ f has.
-            frame_retold (told_as w.image.pages is.are_theory) tell is.terms f
+            frame_retold (told w is) (tell w is) is.terms f
             (subst (λ terms. OfFamily terms f) is.terms_are ((always_is w is).frames f (subst (λ fs. Contains fs f) (sym is.sent) has)));
         each = λ n l at.
-            let own = (is.leaders n l at).within in
-            (told_by l.primary own.pieces, ap (retold_in tell) own.there, refl, own.of_book);
-        no_other = λ u past at. let (p, there, same) = untold tell (is.terms u) past at in is.granted.no_other u p there;
+            let within = (own w is n l at).within in
+            (told_by l.primary within.pieces, ap (retold_in (tell w is)) within.there, refl, within.of_book);
+        no_other = λ u past at. let (p, there, same) = untold (tell w is) (is.terms u) past at in is.granted.no_other u p there;
       }
 
   -- ---- what went out
@@ -95,10 +91,7 @@ module _ (w : ProcessWorld) (is : IsTied w) where
       IsJoinOf (guest_of w.image) frames s → is.world.saved keeper ≡ Some s
   saved_one keeper d frames s at splits join =
       let site = is.standing keeper d at in
-      let same = whole_one d.files.safe site.safe.frames frames site.safe.splits splits in
-      let own : IsJoinOf (guest_of w.image) frames site.written =
-      subst (λ fs. IsJoinOf (guest_of w.image) fs site.written) same site.safe.join in
-      site.wrote_it ∙ ap Some (come_same (nothing (guest_of w.image)) (nothing (guest_of w.image)) frames site.written s refl own join)
+      site.wrote_it ∙ ap Some (one_join (guest_of w.image) is.world.sent d.files.safe site.written s frames site.safe splits join)
 
   -- who acknowledged an output has it on disk
   on_disks : (r : Released) → Contains is.world.released r → IsOnDisks w r.term r.hart r.output.step
@@ -122,7 +115,7 @@ module _ (w : ProcessWorld) (is : IsTied w) where
   has_it : (r : Released) → Contains is.world.released r → (n : ℕ) (l : LeaderView) → Leads w n l → r.term ≤ l.primary.opening.term →
       slice_get (said_at l.primary.book.machine r.hart) r.number ≡ Some (r.output.step, r.output.word)
   has_it r has n l at le =
-      of_machine w is n l at r.hart r.number r.output
+      of_machine w is l.primary.book (own w is n l at).within.is_book (own w is n l at).led r.hart r.number r.output
       ((laws w is).has r l.primary.opening.term (past_now w is n l at) has (there_now w is n l at) le)
 
   -- each later term keeps it
@@ -185,12 +178,13 @@ module _ (w : ProcessWorld) (is : IsTied w) where
 
   -- what a book notes to be out went out
   are_notes_out : AreNotesOut w
-  are_notes_out n l hart number note said at has below own =
-      let there = subst (λ (ns : List (ℕ × ℕ)). Contains ns note) (sym ((is.leaders n l at).noted hart)) has in
+  are_notes_out n l hart number note said at has below there_said =
+      let there = subst (λ (ns : List (ℕ × ℕ)). Contains ns note) (sym ((own w is n l at).noted hart)) has in
       let (r, out, of_hart, of_number, le) = (notes w is).noted l.primary.opening.term hart note number there below in
       went_out (record { term = l.primary.opening.term; output = record { hart = hart; number = number; step = said.0; word = said.1 } })
-      (noted_one n l at r hart number said out of_hart of_number le own)
+      (noted_one n l at r hart number said out of_hart of_number le there_said)
 
+  -- so the world keeps its promises, where its words are known
   pub promises : AreWorded w.asked w.led → KeepsPromises w
   promises words =
       record {

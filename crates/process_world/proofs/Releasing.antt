@@ -1,6 +1,6 @@
 -- Outputs of a term go out in the theory, whatever terms were granted since.
-use Rattle.std.proofs.Common.{◌≡◌, ◌⊎◌, inl, inr, ℕ, zero, suc, ◌<◌, ◌≤◌, List, [], ◌∷◌, ◌++◌, map, slice_get, Contains, Option, Some, None}
-use Rattle.std.proofs.Common.{sym, ap, subst, ◌∙◌, arith}
+use Rattle.std.proofs.Common.{◌≡◌, inl, inr, ℕ, zero, suc, ◌<◌, ◌≤◌, List, [], ◌∷◌, map, slice_get, Contains, Option, Some, None}
+use Rattle.std.proofs.Common.{refl, sym, ap, subst, ◌∙◌, arith}
 use Rattle.std.proofs.lemmas.List.Elements.{Contains-append_right}
 use Rattle.interleaving.specs.Lists.{Each, EachPair}
 use Rattle.interleaving.proofs.Cuts.{here_or_later, here}
@@ -17,12 +17,14 @@ use Rattle.output_gate.specs.Gates.{mark_at}
 use Rattle.term_gate.specs.TermGates.{TermGateView, acked_at}
 use Rattle.fenced_theory.specs.Recorders.{Output as TheoryOutput, Recorder}
 use Rattle.fenced_theory.specs.Worlds as theory
+use Rattle.fenced_theory.proofs.Growing.{some_same}
 use Rattle.book_recorder.specs.TermBooks.{IsTermBook, outputs_of}
 use Rattle.primary.specs.declared.released.Released.{Released}
 use Rattle.primary.specs.Outputs.{said_by, said_at}
 use Rattle.primary.specs.Gating.{AreRising, released_in}
 use Rattle.failover_world.specs.machinery.Tied.{theory_released}
 use Rattle.failover_world.proofs.Going.{IsGoing}
+use Rattle.failover_world.proofs.Onward.{from_theory}
 use Rattle.failover_world.proofs.Releasing.{book_outputs}
 use Rattle.process_world.specs.Worlds.{ProcessWorld}
 use Rattle.process_world.specs.machinery.Tied.{IsTied}
@@ -32,7 +34,7 @@ use Rattle.process_world.specs.machinery.Tied.{IsTied}
 -- what is at a place in a list, once all are mapped
 mapped : {A B : Type 0} (f : A → B) (xs : List A) (n : ℕ) (x : A) → slice_get xs n ≡ Some x → slice_get (map f xs) n ≡ Some (f x)
 mapped f [] n x is = absurd cc
-mapped f (y ∷ xs) zero x is = ap (λ y. Some (f y)) (let e : y ≡ x = cc in e)
+mapped f (y ∷ xs) zero x is = ap (λ y. Some (f y)) (some_same refl is)
 mapped f (y ∷ xs) (suc n) x is = mapped f xs n x is
 
 -- an output of a hart, as the theory has it
@@ -58,30 +60,29 @@ rising_said (Some h) rising = pair_mapped (λ (o p : TheoryOutput). o.step < p.s
 
 module _ (w : ProcessWorld) (is : IsTied w) (b : BookView RecordingView) (is_book : IsTermBook w.image.pages b)
     (leads : LeadsTo (heard_by b.mode) b.start b.journal b.machine) where
+  -- the theory's machine has the outputs of the book's
+  outputs_are : (hart : ℕ) → is.is_recorder.recorder.outputs (is.are_theory.book b is_book) hart ≡ outputs_of (slice_get b.machine.harts hart)
+  outputs_are hart = book_outputs w.image is.are_theory is.is_recorder b is_book leads hart
+
   -- what the book's machine has put out, its book in the theory has
   pub in_theory : (hart number step word : ℕ) → slice_get (said_at b.machine hart) number ≡ Some (step, word) →
       slice_get (is.is_recorder.recorder.outputs (is.are_theory.book b is_book) hart) number ≡ Some (record { step = step; word = word })
   in_theory hart number step word said =
-      ap (λ os. slice_get os number) (book_outputs w.image is.are_theory is.is_recorder b is_book leads hart)
-      ∙ said_in_theory (slice_get b.machine.harts hart) number step word said
+      ap (λ os. slice_get os number) (outputs_are hart) ∙ said_in_theory (slice_get b.machine.harts hart) number step word said
+
+  -- and its machine has put out what its book in the theory has
+  pub of_machine : (hart number : ℕ) (o : TheoryOutput) → slice_get (is.is_recorder.recorder.outputs (is.are_theory.book b is_book) hart) number ≡ Some o →
+      slice_get (said_at b.machine hart) number ≡ Some (o.step, o.word)
+  of_machine hart number o out =
+      from_theory (slice_get b.machine.harts hart) number (o.step, o.word) (ap (λ os. slice_get os number) (sym (outputs_are hart)) ∙ out)
 
   -- the machine's outputs stand in the order of their steps
   pub rising : AreRising b.machine
   rising hart =
       rising_said (slice_get b.machine.harts hart)
-      (subst (EachPair (λ o p. o.step < p.step)) (book_outputs w.image is.are_theory is.is_recorder b is_book leads hart)
-      (is.is_recorder.recorder.rising (is.are_theory.book b is_book) hart))
+      (subst (EachPair (λ o p. o.step < p.step)) (outputs_are hart) (is.is_recorder.recorder.rising (is.are_theory.book b is_book) hart))
 
 -- ---- outputs that go out
-
--- those before, or those that go
-pub split : (xs ys : List Released) (r : Released) → Contains (xs ++ ys) r → Contains xs r ⊎ Contains ys r
-split [] ys r has = inr has
-split (x ∷ xs) ys r has =
-    elim (here_or_later x (xs ++ ys) r has) [
-      | inl same ↦ inl (subst (Contains (x ∷ xs)) same (here x xs))
-      | inr later ↦ elim (split xs ys r later) [ inl one ↦ inl (Contains-append_right (x ∷ []) xs r one) | inr two ↦ inr two ]
-    ]
 
 module _ (term : ℕ) where
   -- an output that goes out in the term

@@ -1,5 +1,6 @@
 -- A round hands words on and gives them in their order; and what is known once a primary's process ends.
-use Rattle.std.proofs.Common.{◌≡◌, inl, inr, ℕ, ◌+◌, ◌≤◌, List, [], ◌++◌, Option, Some, None, length, slice_get, sym, ap, subst, ◌∙◌, arith, append_assoc, length-append}
+use Rattle.std.proofs.Common.{◌≡◌, inl, inr, ℕ, ◌+◌, ◌≤◌, List, [], ◌++◌, Option, Some, None, length, slice_get, sym, ap, subst, ◌∙◌, arith, append_assoc}
+use Rattle.std.proofs.Common.{length-append}
 use Rattle.std.specs.Prelude.{All}
 use Rattle.std.proofs.lemmas.List.Elements.{All-append, All-weaker}
 use Rattle.input_log.specs.declared.Input.{Input}
@@ -30,9 +31,11 @@ use Rattle.process_world.proofs.Wording.{Knows, all_given, all_pass, few_logged,
 module _ (asked : List Request) (old new : LeaderView) (spacing : Spacing) (steps : ℕ)
     (leads : LeadsTo (heard_by old.primary.book.mode) old.primary.book.start old.primary.book.journal old.primary.book.machine)
     (round : IsRound spacing steps old new) (is : Knows asked old) where
+  -- its book before
   abbrev b : BookView RecordingView
   b = old.primary.book
 
+  -- and after
   abbrev c : BookView RecordingView
   c = new.primary.book
 
@@ -69,12 +72,15 @@ module _ (asked : List Request) (old new : LeaderView) (spacing : Spacing) (step
       (hands_handed spacing b round.given old.queues new.queues (as_many b leads) round.book round.hands (λ hart h at. (is.harts hart h at).handed))
 
   module _ (hart : ℕ) (h : Hart) (at : slice_get b.start.harts hart ≡ Some h) where
+    -- what waited for the hart
     abbrev q : QueueView
     q = queue_at old.queues hart
 
+    -- and what does so then
     abbrev p : QueueView
     p = queue_at new.queues hart
 
+    -- its inputs in the log before
     abbrev row : Row
     row = inputs_of b.mode.inputs hart
 
@@ -86,6 +92,7 @@ module _ (asked : List Request) (old new : LeaderView) (spacing : Spacing) (step
     now : (k : Hart) × (slice_get b.machine.harts hart ≡ Some k)
     now = there_too b.start.harts b.machine.harts hart h (as_many b leads) at
 
+    -- what it is handed
     abbrev next : Option Input
     next = next_of now.0 q
 

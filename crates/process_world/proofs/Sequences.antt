@@ -34,12 +34,15 @@ none_too (x ∷ xs) (y ∷ ys) zero many none = absurd cc
 none_too (x ∷ xs) (y ∷ ys) (suc n) many none = none_too xs ys n (omega (arith, many)) none
 
 module _ (b : BookView RecordingView) (leads : LeadsTo (heard_by b.mode) b.start b.journal b.machine) where
+  -- the turns of its journal
   abbrev turns : List (Turn (List Input))
   turns = journal_turns (heard_by b.mode) b.start b.journal
 
+  -- how many pages its machine has
   abbrev pages : ℕ
   pages = length b.start.pages
 
+  -- the machine that it starts from
   abbrev start : HartMachine
   start = view (hardware (length b.start.pages)) b.start
 
@@ -51,13 +54,15 @@ module _ (b : BookView RecordingView) (leads : LeadsTo (heard_by b.mode) b.start
   pub no_step : (hart : ℕ) → slice_get b.start.harts hart ≡ None → counts_of b.machine hart ≡ 0
   no_step hart none = ap steps_taken (none_too b.start.harts b.machine.harts hart as_many none)
 
-  -- in the theory's words
+  -- in the theory's words the journal runs
   goes : Runs (system pages) start turns
   goes = (stored_runs (hardware pages) b.start turns b.machine leads).0
 
+  -- to its machine
   outcome : view (hardware pages) b.machine ≡ run (system pages) start turns
   outcome = (stored_runs (hardware pages) b.start turns b.machine leads).1
 
+  -- with its counts
   last : (hart : ℕ) → counts_of b.machine hart ≡ counts (system pages) (run (system pages) start turns) hart
   last hart = sym (counts_is pages b.machine hart) ∙ ap (λ (m : HartMachine). counts (system pages) m hart) outcome
 

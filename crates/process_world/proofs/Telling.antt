@@ -1,10 +1,13 @@
 -- The world stays one that comes in the theory: requests that are heard, what is told, primaries that end, and what clients do.
-use Rattle.std.proofs.Common.{◌≡◌, ◌⊎◌, inl, inr, ℕ, zero, suc, ◌+◌, ◌<◌, Bool, true, false, List, [], ◌∷◌, ◌++◌, length, map, take, drop, filter, Contains, slice_get, slice_set, Option, Some, None, refl, sym, ap, subst, ◌∙◌, arith}
-use Rattle.std.specs.Prelude.{slice_index_or, nat_lt, if◌then◌else◌, ◌==◌, ◌&&◌}
+use Rattle.std.proofs.Common.{◌≡◌, inl, inr, ℕ, zero, suc, ◌+◌, ◌<◌, Bool, true, false, List, [], ◌∷◌, ◌++◌, length, map, take, drop, filter, Contains}
+use Rattle.std.proofs.Common.{slice_get, slice_set, Some, None, refl, sym, ap, subst, ◌∙◌, arith}
+use Rattle.std.specs.Prelude.{nat_lt, if◌then◌else◌, ◌==◌, ◌&&◌}
 use Rattle.std.specs.List.{enumerate_from}
 use Rattle.std.proofs.lemmas.Bool.{eqb-true, and_parts}
-use Rattle.std.proofs.lemmas.List.Elements.{Contains-append_cases, Contains-append_right, All-contains, All-contains_itself, All-filter}
+use Rattle.std.proofs.lemmas.List.Elements.{Contains-append_cases}
+use Rattle.edge_log.proofs.Logs.{map_contains}
 use Rattle.interleaving.proofs.Cuts.{here, here_or_later}
+use Rattle.guest_image.specs.Image.{guest_of}
 use Rattle.ft_types.specs.declared.output.Output.{Output}
 use Rattle.input_log.specs.declared.Input.{Input}
 use Rattle.input_log.specs.declared.Input.TheVariants.{Timer as TimerInput, Word as WordInput}
@@ -27,34 +30,24 @@ use Rattle.wire.specs.declared.answers.Answer.{Answer}
 use Rattle.wire.specs.declared.requests.Request.{Request}
 use Rattle.wire.specs.declared.requests.Request.TheVariants.{Timer, Word, From}
 use Rattle.fenced_theory.specs.Recorders.{Output as TheoryOutput}
+use Rattle.fenced_theory.proofs.Growing.{some_same, some_none}
 use Rattle.failover_world.specs.machinery.Tied.{theory_released}
+use Rattle.failover_world.proofs.Noting.{in_filter}
 use Rattle.process_world.specs.Worlds.{Led, ProcessWorld, Leads, led_as}
 use Rattle.process_world.specs.Happenings.{led_by, told_of, answer_of, ended}
-use Rattle.process_world.specs.Promises.{AreHeard}
-use Rattle.process_world.specs.machinery.Tied.{AreGranted, IsTold, IsTied}
-use Rattle.process_world.proofs.Lists.{some_same, none_some, set_cases, push_cases}
-use Rattle.process_world.proofs.Seats.{one_leader, granted_set, IsNow}
-use Rattle.process_world.proofs.Laws.{notes, past_now, there_now, in_theory}
+use Rattle.process_world.specs.machinery.Tied.{IsTold, IsTied}
+use Rattle.process_world.proofs.Lists.{none_in, only_one, set_cases, set_either, push_cases}
+use Rattle.process_world.proofs.Seats.{renewed, with_parts, still_heard, more_told, led_changed, leader_changed, none_told}
+use Rattle.process_world.proofs.Terms.{own, past_now, there_now}
+use Rattle.process_world.proofs.Releasing.{in_theory}
+use Rattle.process_world.proofs.Laws.{notes}
 
 -- ---- lists
-
--- what is in a list that was made of another comes of one in that
-unmapped : {A B : Type 0} (f : A → B) (xs : List A) (y : B) → Contains (map f xs) y → (x : A) × Contains xs x × (f x ≡ y)
-unmapped f [] y (k, below, is) = absurd (omega (arith, below))
-unmapped f (x ∷ xs) y has =
-    elim (here_or_later (f x) (map f xs) y has) [
-      | inl same ↦ (x, here x xs, same)
-      | inr later ↦ let (z, there, same) = unmapped f xs y later in (z, Contains-append_right (x ∷ []) xs z there, same)
-    ]
-
--- what a filter keeps was there
-unfiltered : {A : Type 0} (test : A → Bool) (xs : List A) (x : A) → Contains (filter test xs) x → Contains xs x
-unfiltered test xs x has = All-contains (Contains xs) (filter test xs) x (All-filter test (Contains xs) xs (All-contains_itself xs)) has
 
 -- what has a number stands there
 at_number : {A : Type 0} (n : ℕ) (xs : List A) (x : ℕ × A) → Contains (enumerate_from n xs) x →
     (k : ℕ) × (n + k ≡ x.0) × (slice_get xs k ≡ Some x.1)
-at_number n [] x (k, below, is) = absurd (omega (arith, below))
+at_number n [] x has = none_in [] x refl has
 at_number {A} n (y ∷ xs) x has =
     elim (here_or_later (n, y) (enumerate_from (n + 1) xs) x has) [
       | inl same ↦ let e : n ≡ x.0 = ap (λ (p : ℕ × A). p.0) same in (0, omega (arith, e), ap (λ (p : ℕ × A). Some p.1) same)
@@ -75,16 +68,6 @@ before (suc n) k [] x is = absurd cc
 before (suc n) zero (y ∷ xs) x is = (omega arith, is)
 before (suc n) (suc k) (y ∷ xs) x is = let (less, there) = before n k xs x is in (omega (arith, less), there)
 
--- a word that is heard stands at its number, and those at others stay
-heard_cases : (xs : List (Option ℕ)) (n m word other : ℕ) → slice_index_or (slice_set xs n (Some word)) m None ≡ Some other →
-    ((n ≡ m) × (word ≡ other)) ⊎ (slice_index_or xs m None ≡ Some other)
-heard_cases [] n m word other is = inr is
-heard_cases (x ∷ xs) zero zero word other is = inl (refl, some_same refl is)
-heard_cases (x ∷ xs) zero (suc m) word other is = inr is
-heard_cases (x ∷ xs) (suc n) zero word other is = inr is
-heard_cases (x ∷ xs) (suc n) (suc m) word other is =
-    elim (heard_cases xs n m word other is) [ inl (same, own) ↦ inl (ap suc same, own) | inr was ↦ inr was ]
-
 -- ---- what a client hears
 
 -- what is new is not foreign
@@ -100,118 +83,50 @@ of_its_hart a o new =
 
 -- ---- what is told of an output
 
+-- an output, as it is told in a term
 abbrev answer_in : ℕ → Output → Answer
 answer_in term o = record { term = term; output = o }
 
+-- what a hart put out, with its number
 abbrev output_at : ℕ → ℕ × (ℕ × ℕ) → Output
 output_at hart o = record { hart = hart; number = o.0; step = o.1.0; word = o.1.1 }
 
 module _ (w : ProcessWorld) (is : IsTied w) where
-  -- ---- the same world of the theory
-
-  -- of primaries, of what was told, of clients and of requests there are others, and the theory's world is as it was
-  with_parts : (led : List Led) (answers : List Answer) (clients : List TalkView) (asked : List Request) → AreGranted is.terms led →
-      ((n : ℕ) (l : LeaderView) → slice_get led n ≡ Some (led_as l) → IsNow w is is.world is.terms l) →
-      ((a : Answer) → Contains answers a → IsTold is.world.released a) → AreHeard (record w { told = answers; clients = clients }) →
-      IsTied (record w { led = led; told = answers; clients = clients; asked = asked })
-  with_parts led answers clients asked granted leaders all_told all_heard =
-      record {
-        are_theory = is.are_theory;
-        is_recorder = is.is_recorder;
-        terms = is.terms;
-        world = is.world;
-        comes = is.comes;
-        terms_are = is.terms_are;
-        is_history = is.is_history;
-        granted = granted;
-        leaders = leaders;
-        sent = is.sent;
-        standing = is.standing;
-        said = is.said;
-        handed = is.handed;
-        told = all_told;
-        heard = all_heard;
-      }
-
   -- what a client heard was told
-  abbrev WasTold : List Answer → TalkView → Type 0
-  WasTold answers t =
+  abbrev WasTold : TalkView → Type 0
+  WasTold t =
       (number word : ℕ) → had t.asker number ≡ Some word →
-      (a : Answer) × Contains answers a × (a.output.hart ≡ t.asker.hart) × (a.output.number ≡ number) × (a.output.word ≡ word)
-
-  -- where more is told, what was heard was told still
-  still_heard : (answers : List Answer) → AreHeard (record w { told = answers ++ w.told })
-  still_heard answers c t number word at had_it =
-      let (a, has, of_hart, of_number, of_word) = is.heard c t number word at had_it in
-      (a, Contains-append_right answers w.told a has, of_hart, of_number, of_word)
-
-  -- where more is told that went out, all that is told did
-  more_told : (answers : List Answer) → ((a : Answer) → Contains answers a → IsTold is.world.released a) →
-      (a : Answer) → Contains (answers ++ w.told) a → IsTold is.world.released a
-  more_told answers out a has = elim (Contains-append_cases answers w.told a has) [ inl new ↦ out a new | inr old ↦ is.told a old ]
-
-  -- a primary that was granted is this one now, of the same term, and these are told
-  led_changed : (n : ℕ) (x y : Led) → slice_get w.led n ≡ Some x → y.opening ≡ x.opening → y.book ≡ x.book →
-      ((l : LeaderView) → y ≡ led_as l → IsNow w is is.world is.terms l) → (answers : List Answer) →
-      ((a : Answer) → Contains answers a → IsTold is.world.released a) →
-      IsTied (record w { led = slice_set w.led n y; told = answers ++ w.told })
-  led_changed n x y at same book own answers out =
-      with_parts (slice_set w.led n y) (answers ++ w.told) w.clients w.asked (granted_set is.terms w.led n x y is.granted at same book)
-      (λ m l there. elim (set_cases w.led n m y (led_as l) there) [
-        | inl (here, so) ↦ own l so
-        | inr (other, was) ↦ is.leaders m l was
-      ])
-      (more_told answers out) (still_heard answers)
+      (a : Answer) × Contains w.told a × (a.output.hart ≡ t.asker.hart) × (a.output.number ≡ number) × (a.output.word ≡ word)
 
   -- one client is another, and what it heard was told
-  client_changed : (c : ℕ) (t u : TalkView) (asked : List Request) → slice_get w.clients c ≡ Some t → WasTold w.told u →
+  client_changed : (c : ℕ) (t u : TalkView) (asked : List Request) → slice_get w.clients c ≡ Some t → WasTold u →
       IsTied (record w { clients = slice_set w.clients c u; asked = asked })
   client_changed c t u asked at own =
-      with_parts w.led w.told (slice_set w.clients c u) asked is.granted is.leaders is.told
+      with_parts w is w.led w.told (slice_set w.clients c u) asked is.granted is.leaders is.told
       (λ k v number word there. elim (set_cases w.clients c k u v there) [
-        | inl (here, so) ↦ subst (WasTold w.told) so own number word
+        | inl (here, so) ↦ subst WasTold so own number word
         | inr (other, was) ↦ is.heard k v number word was
       ])
 
   -- ---- primaries
-
-  -- what a primary knows and did says nothing of its queues
-  requeued : (n : ℕ) (l : LeaderView) → Leads w n l → (queues : List QueueView) → IsNow w is is.world is.terms (record l { queues = queues })
-  requeued n l at queues =
-      let own = is.leaders n l at in
-      record {
-        within = own.within;
-        of_guest = own.of_guest;
-        of_keepers = own.of_keepers;
-        of_need = own.of_need;
-        of_term = own.of_term;
-        offered = own.offered;
-        led = own.led;
-        acked = own.acked;
-        released = own.released;
-        gone = own.gone;
-        noted = own.noted;
-        marked = own.marked;
-      }
 
   -- a primary has other queues, and tells these
   answers_with : (n : ℕ) (old new : LeaderView) (queues : List QueueView) → Leads w n old → new ≡ record old { queues = queues } →
       (answers : List Answer) → ((a : Answer) → Contains answers a → IsTold is.world.released a) →
       IsTied (record w { led = led_by w n new; told = answers ++ w.told })
   answers_with n old new queues at same answers out =
-      led_changed n (led_as old) (led_as new) at (ap (λ (l : LeaderView). l.primary.opening) same) (ap (λ (l : LeaderView). l.primary.book) same)
-      (λ l so. subst (IsNow w is is.world is.terms) (sym same ∙ one_leader new l so) (requeued n old at queues)) answers out
-
-  -- nothing is told
-  none_told : (a : Answer) → Contains [] a → IsTold is.world.released a
-  none_told a (k, below, so) = absurd (omega (arith, below))
+      let own = is.leaders n old at in
+      subst (λ (l : LeaderView). IsTied (record w { led = led_by w n l; told = answers ++ w.told })) (sym same)
+      (leader_changed w is n old (record old { queues = queues }) at refl refl
+      (renewed is.world is.world is.terms is.terms (guest_of w.image) w.keepers w.need old old.primary.sealed old.gate.acked queues own own.within own.acked
+      (λ r has. has) (λ hart. refl) (λ hart. refl)) answers out)
 
   -- an input came for a hart
   comes_to : (n : ℕ) (old new : LeaderView) (hart : ℕ) (input : Input) (becomes : QueueView → Came) (what : Heard) → Leads w n old →
       Comes old hart input becomes new what → IsTied (record w { led = led_by w n new; told = told_of what ++ w.told })
-  comes_to n old new hart input becomes on.NoHart at (none, same) = answers_with n old new old.queues at same [] none_told
+  comes_to n old new hart input becomes on.NoHart at (none, same) = answers_with n old new old.queues at same [] (none_told w is)
   comes_to n old new hart input becomes (on.Came came) at (there, so, same) =
-      answers_with n old new (slice_set old.queues hart (put_as (queue_at old.queues hart) input came)) at same [] none_told
+      answers_with n old new (slice_set old.queues hart (put_as (queue_at old.queues hart) input came)) at same [] (none_told w is)
   comes_to n old new hart input becomes (on.Told answers) at never = absurd never
 
   module _ (n : ℕ) (l : LeaderView) (at : Leads w n l) where
@@ -220,11 +135,11 @@ module _ (w : ProcessWorld) (is : IsTied w) where
         slice_get (said_at l.primary.book.machine hart) o.0 ≡ Some o.1 →
         IsTold is.world.released (answer_in l.primary.opening.term (output_at hart o))
     below_mark hart o less said =
-        let low = subst (λ mark. o.0 < mark) (sym ((is.leaders n l at).marked hart)) less in
+        let low = subst (λ mark. o.0 < mark) (sym ((own w is n l at).marked hart)) less in
         let out : TheoryOutput = record { step = o.1.0; word = o.1.1 } in
         let (r, has, of_hart, of_number, same, older) =
         (notes w is).marked l.primary.opening.term hart o.0 (past_now w is n l at) out (there_now w is n l at) low
-        (in_theory w is n l at hart o.0 o.1.0 o.1.1 said) in
+        (in_theory w is l.primary.book (own w is n l at).within.is_book (own w is n l at).led hart o.0 o.1.0 o.1.1 said) in
         record {
           out = r;
           has = has;
@@ -238,7 +153,7 @@ module _ (w : ProcessWorld) (is : IsTied w) where
     -- one that it let go went out in its term
     let_go : (r : Released) → Contains l.released r → IsTold is.world.released (answer_of l.primary.opening.term r)
     let_go r has =
-        let (there, own) = (is.leaders n l at).released r has in
+        let (there, in_term) = (own w is n l at).released r has in
         record {
           out = theory_released r;
           has = there;
@@ -246,7 +161,7 @@ module _ (w : ProcessWorld) (is : IsTied w) where
           of_number = refl;
           of_step = refl;
           of_word = refl;
-          no_later = omega (arith, own);
+          no_later = omega (arith, in_term);
         }
 
     -- what is told again went out: by its mark
@@ -256,8 +171,8 @@ module _ (w : ProcessWorld) (is : IsTied w) where
         IsTold is.world.released a
     told_first hart number a has =
         let known = drop number (take (mark_at l.gate.gate hart) (said_at l.primary.book.machine hart)) in
-        let (o, among, so) = unmapped (answer_in l.primary.opening.term) (numbered_from hart number known) a has in
-        let (x, there, is_so) = unmapped (output_at hart) (enumerate_from number known) o among in
+        let (o, among, so) = map_contains (answer_in l.primary.opening.term) (numbered_from hart number known) a has in
+        let (x, there, is_so) = map_contains (output_at hart) (enumerate_from number known) o among in
         let (k, of_number, stands) = at_number number known x there in
         let stood = behind number k (take (mark_at l.gate.gate hart) (said_at l.primary.book.machine hart)) x.1 stands in
         let (less, said) =
@@ -271,8 +186,8 @@ module _ (w : ProcessWorld) (is : IsTied w) where
         IsTold is.world.released a
     told_last hart number a has =
         let outputs : List Output = map (λ (r : Released). r.output) l.released in
-        let (o, among, so) = unmapped (answer_in l.primary.opening.term) (filter (is_from hart number) outputs) a has in
-        let (r, there, is_so) = unmapped (λ (r : Released). r.output) l.released o (unfiltered (is_from hart number) outputs o among) in
+        let (o, among, so) = map_contains (answer_in l.primary.opening.term) (filter (is_from hart number) outputs) a has in
+        let (r, there, is_so) = map_contains (λ (r : Released). r.output) l.released o (in_filter (is_from hart number) outputs o among).0 in
         subst (IsTold is.world.released) (ap (answer_in l.primary.opening.term) is_so ∙ so) (let_go r there)
 
     -- and so by either
@@ -305,29 +220,25 @@ module _ (w : ProcessWorld) (is : IsTied w) where
       IsTied (record w { told = answer_of l.primary.opening.term r ∷ w.told })
   tells n l r at has =
       let one : List Answer = answer_of l.primary.opening.term r ∷ [] in
-      with_parts w.led (one ++ w.told) w.clients w.asked is.granted is.leaders
-      (more_told one (λ a new. elim (here_or_later (answer_of l.primary.opening.term r) [] a new) [
-        | inl same ↦ subst (IsTold is.world.released) same (let_go n l at r has)
-        | inr later ↦ none_told a later
-      ]))
-      (still_heard one)
+      with_parts w is w.led (one ++ w.told) w.clients w.asked is.granted is.leaders
+      (more_told w is one (λ a new. subst (IsTold is.world.released) (only_one (answer_of l.primary.opening.term r) a new) (let_go n l at r has)))
+      (still_heard w is one)
 
   -- a primary's process ends
   pub ends : (n : ℕ) (l : LeaderView) → Leads w n l →
       IsTied (record w { led = slice_set w.led n (ended l) })
   ends n l at =
-      led_changed n (led_as l) (ended l) at refl refl
-      (λ k so. absurd (none_some refl (ap (λ (x : Led). x.leader) so))) [] none_told
+      led_changed w is n (led_as l) (ended l) at refl refl (λ k so. some_none (ap (λ (x : Led). x.leader) so) refl) [] (none_told w is)
 
   -- ---- clients
 
   -- a client comes, that has heard nothing
   pub joins : (t : TalkView) → ((number : ℕ) → had t.asker number ≡ None) → IsTied (record w { clients = w.clients ++ t ∷ [] })
   joins t none =
-      with_parts w.led w.told (w.clients ++ t ∷ []) w.asked is.granted is.leaders is.told
+      with_parts w is w.led w.told (w.clients ++ t ∷ []) w.asked is.granted is.leaders is.told
       (λ k u number word there. elim (push_cases w.clients t k u there) [
         | inl was ↦ is.heard k u number word was
-        | inr (last, so) ↦ λ had_it. absurd (none_some (none number) (subst (λ (u : TalkView). had u.asker number ≡ Some word) (sym so) had_it))
+        | inr (last, so) ↦ λ had_it. some_none (subst (λ (u : TalkView). had u.asker number ≡ Some word) (sym so) had_it) (none number)
       ])
 
   -- a client asks for its next word
@@ -339,16 +250,16 @@ module _ (w : ProcessWorld) (is : IsTied w) where
 
   -- more is asked for
   pub wants : (asked : List Request) → IsTied (record w { asked = asked })
-  wants asked = with_parts w.led w.told w.clients asked is.granted is.leaders is.told is.heard
+  wants asked = with_parts w is w.led w.told w.clients asked is.granted is.leaders is.told is.heard
 
   -- a client hears what is new to it
   pub hears_answer : (c : ℕ) (t : TalkView) (a : Answer) → slice_get w.clients c ≡ Some t → Contains w.told a → heard t.asker a.output ≡ New →
       IsTied (record w { clients = slice_set w.clients c (record t { asker = with_answer t.asker a.output }) })
   hears_answer c t a at has new =
       client_changed c t (record t { asker = with_answer t.asker a.output }) w.asked at
-      (λ number word had_it. elim (heard_cases t.asker.answers a.output.number number a.output.word word had_it) [
-        | inl (same, own) ↦ (a, has, of_its_hart t.asker a.output new, same, own)
-        | inr was ↦ is.heard c t number word at was
+      (λ number word had_it. elim (set_either t.asker.answers a.output.number number (Some a.output.word) None) [
+        | inl (same, own) ↦ (a, has, of_its_hart t.asker a.output new, same, some_same own had_it)
+        | inr old ↦ is.heard c t number word at (sym old ∙ had_it)
       ])
 
   -- a client tells what it has heard

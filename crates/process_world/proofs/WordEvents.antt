@@ -4,6 +4,7 @@ use Rattle.std.proofs.lemmas.List.Elements.{Contains-append_right}
 use Rattle.interleaving.specs.Lists.{put}
 use Rattle.book_modes.specs.Recordings.{RecordingView}
 use Rattle.page_book.specs.Books.{BookView}
+use Rattle.fenced_theory.proofs.Growing.{some_none}
 use Rattle.keeper_disks.specs.Disks.{Out, Nothing, Says, Hands}
 use Rattle.primary.specs.Primaries.{no_limits}
 use Rattle.wire.specs.declared.requests.Request.{Request}
@@ -13,11 +14,12 @@ use Rattle.requests.specs.declared.queue.TheConstants.{WORD_LIMIT}
 use Rattle.word_sequences.specs.Sequences.{sequence_of}
 use Rattle.leading.specs.Leaders.{AreInLimit, LeaderView}
 use Rattle.process_world.specs.Worlds.{Led, ProcessWorld, led_as}
-use Rattle.process_world.specs.Happenings.{Happens, AtKeeper, Loses, GoesLiveIn, HearsRequest, LeadsRound, Seals, HearsSaid, LacksMemory, Tells, Ends, Joins, Wants, Asks, AsksAgain, HearsAnswer, Prints}
+use Rattle.process_world.specs.Happenings.{Happens, AtKeeper, Loses, GoesLiveIn, HearsRequest, LeadsRound, Seals, HearsSaid, LacksMemory, Tells, Ends, Joins}
+use Rattle.process_world.specs.Happenings.{Wants, Asks, AsksAgain, HearsAnswer, Prints}
 use Rattle.process_world.specs.Happenings.{OnlyHears, ended, with_out}
 use Rattle.process_world.specs.machinery.Tied.{IsTied}
 use Rattle.process_world.specs.machinery.Worded.{AreWorded, LeaderWords, LedWords}
-use Rattle.process_world.proofs.Lists.{none_some, push_cases, push_last, set_cases}
+use Rattle.process_world.proofs.Lists.{none_at, push_cases, push_last, set_cases}
 use Rattle.process_world.proofs.Seats.{one_leader}
 use Rattle.process_world.proofs.Wording.{Knows, begun, hears_words, more_asked, more_asked_too, renoted_words}
 use Rattle.process_world.proofs.RoundWords.{book_words, round_words}
@@ -25,7 +27,7 @@ use Rattle.process_world.proofs.Chain.{ComesFrom, begun_within, its_words, origi
 
 -- nobody leads where the world begins
 pub first_worded : (asked : List Request) (led : List Led) → led ≡ [] → AreWorded asked led
-first_worded asked led none n x at = absurd (none_some (ap (λ (all : List Led). slice_get all n) none) at)
+first_worded asked led none n x at = none_at led n x none at
 
 -- one of the primaries is another now
 set_worded : (asked : List Request) (led : List Led) (n : ℕ) (y : Led) → AreWorded asked led → LedWords asked y → AreWorded asked (slice_set led n y)
@@ -42,7 +44,7 @@ knows : (asked : List Request) (led : List Led) (n : ℕ) (l : LeaderView) → s
 knows asked led n l at words =
     elim (words n (led_as l) at) [
       | inl (k, same, is) ↦ subst (Knows asked) (one_leader k l (sym same)) is
-      | inr (none, is) ↦ absurd (none_some none refl)
+      | inr (none, is) ↦ some_none refl none
     ]
 
 -- more is asked for
