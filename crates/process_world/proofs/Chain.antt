@@ -27,6 +27,7 @@ use Rattle.process_world.specs.Worlds.{Led, ProcessWorld}
 use Rattle.process_world.specs.machinery.Tied.{IsTied}
 use Rattle.process_world.specs.machinery.Worded.{AreWorded, BookWords}
 use Rattle.process_world.proofs.Seats.{tell}
+use Rattle.process_world.proofs.Laws.{its_granted}
 use Rattle.process_world.proofs.RoundWords.{book_words}
 use Rattle.process_world.proofs.Sequences.{at_cut}
 
@@ -107,15 +108,12 @@ module _ (w : ProcessWorld) (is : IsTied w) where
   from_parent b u past was cut goes =
       let (q, there, of) = untold (tell w is) (is.terms u) past was in
       let same : past ≡ retold (tell w is) q = some_same was (ap (retold_in (tell w is)) there) in
-      let (m, k, at_k, of_term) = is.granted.no_other u q there in
-      let (r, also, opening, book) = is.granted.each m k at_k in
-      let e : r ≡ q = some_same also (ap is.terms of_term ∙ there) in
-      let its : q.told.book ≡ k.book = ap (λ (r : Past (TermBook w.image.pages)). r.told.book) (sym e) ∙ book in (
+      let (m, k, at_k, of_term, opening, book) = its_granted w is u q there in (
         m,
         k,
         at_k,
         of_term,
-        subst (λ (k : BookView RecordingView). IsBehind k b) its
+        subst (λ (k : BookView RecordingView). IsBehind k b) book
             (goes q there (subst (λ (t : GuestTerm). IsCut t.told.log (counts_of b.start)) same cut)),
       )
 

@@ -32,12 +32,18 @@ module _ (w : ProcessWorld) (is : IsTied w) where
   its_term n l at =
       let (p, there, same, book) = is.granted.each n l at in (retold (told w is) p, in_world w is l.opening.term (Some p) there, same)
 
+  -- each term of the family is that of a primary that was granted, with its opening and its book
+  pub its_granted : (u : ℕ) (p : Past (TermBook w.image.pages)) → is.terms u ≡ Some p →
+      (n : ℕ) × (l : Led) × (slice_get w.led n ≡ Some l) × (l.opening.term ≡ u) × (p.opening ≡ l.opening) × (p.told.book ≡ l.book)
+  its_granted u p there =
+      let (n, l, here, of_term) = is.granted.no_other u p there in
+      let (q, also, opening, book) = is.granted.each n l here in
+      let e : p ≡ q = some_same there (ap is.terms (sym of_term) ∙ also) in
+      (n, l, here, of_term, ap (λ (r : Past (TermBook w.image.pages)). r.opening) e ∙ opening, ap (λ (r : Past (TermBook w.image.pages)). r.told.book) e ∙ book)
+
   -- each term of the theory is that of a primary that was granted, with its opening
   pub its_primary : (u : ℕ) (q : Past (Books w.image.pages is.are_theory)) → is.world.terms u ≡ Some q →
       (n : ℕ) × (l : Led) × (slice_get w.led n ≡ Some l) × (l.opening.term ≡ u) × (l.opening ≡ q.opening)
   its_primary u q at =
       let (p, there, same) = untold (told w is) (is.terms u) q (ap (λ f. f u) (sym is.terms_are) ∙ at) in
-      let (n, l, here, of_term) = is.granted.no_other u p there in
-      let (r, also, own, book) = is.granted.each n l here in
-      let e : r ≡ p = some_same also (ap is.terms of_term ∙ there) in
-      (n, l, here, of_term, sym own ∙ ap (λ (r : Past (TermBook w.image.pages)). r.opening) e ∙ same)
+      let (n, l, here, of_term, opening, book) = its_granted u p there in (n, l, here, of_term, sym opening ∙ same)

@@ -52,7 +52,7 @@ from_more clients number (x ∷ xs) ys first more =
 -- ---- words below a count
 
 -- the words of a row that grew
-pub words_more : (row more : Row) → row_words (row ++ more) ≡ row_words row ++ row_words more
+words_more : (row more : Row) → row_words (row ++ more) ≡ row_words row ++ row_words more
 words_more row more = ap words_in (map-append (λ x. x.1) row more) ∙ words_in-append (map (λ x. x.1) row) (map (λ x. x.1) more)
 
 -- and those of them below a count
@@ -109,7 +109,7 @@ below_grows (x ∷ row) count more le = by (nat_lt x.0 count) (nat_lt x.0 more) 
     by false false e f rest = rest
 
 -- where there are as many, they are all
-pub all_below : (row : Row) (count : ℕ) → length (row_words row) ≤ length (row_below row count) → row_below row count ≡ row_words row
+all_below : (row : Row) (count : ℕ) → length (row_words row) ≤ length (row_below row count) → row_below row count ≡ row_words row
 all_below [] count many = refl
 all_below (x ∷ row) count many = by (nat_lt x.0 count) (few_below row count) (all_below row count) many
   where

@@ -93,7 +93,7 @@ begun asked b queues limits unused behind limit =
 -- ---- more that is asked for
 
 -- where all ask by number, those of them did who asked before
-pub still_by_number : (asked more : List Request) → ((r : Request) → Contains asked r → Contains more r) → (hart : ℕ) (clients : ℕ → ℕ) →
+still_by_number : (asked more : List Request) → ((r : Request) → Contains asked r → Contains more r) → (hart : ℕ) (clients : ℕ → ℕ) →
     AskByNumber more hart clients → AskByNumber asked hart clients
 still_by_number asked more grows hart clients ask word number has = ask word number (grows (Word hart word number) has)
 
