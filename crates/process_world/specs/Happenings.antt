@@ -1,5 +1,5 @@
 -- What may happen next: each is one call of a process, in the words of its contract, or a loss.
-use Rattle.std.specs.Prelude.{◌≡◌, ◌<◌, ◌+◌, ℕ, List, [], ◌∷◌, ◌++◌, Contains, All, slice_get, slice_set, Option, None, Some}
+use Rattle.std.specs.Prelude.{◌≡◌, ◌+◌, ℕ, List, [], ◌∷◌, ◌++◌, Contains, All, slice_get, slice_set, None, Some}
 use Rattle.interleaving.specs.Lists.{put}
 use Rattle.ft_types.specs.declared.quorum.Quorum.{Quorum}
 use Rattle.guest_image.specs.Image.{ImageContents, guest_of}
@@ -25,7 +25,7 @@ use Rattle.asking.specs.Talks.{TalkView}
 use Rattle.wire.specs.declared.acknowledgements.Acknowledgement.{Acknowledgement}
 use Rattle.wire.specs.declared.answers.Answer.{Answer}
 use Rattle.wire.specs.declared.requests.Request.{Request}
-use Rattle.process_world.specs.Worlds.{Handed, Led, ProcessWorld, Begins, IsNotGranted, Leads, led_as}
+use Rattle.process_world.specs.Worlds.{Led, ProcessWorld, Begins, IsNotGranted, Leads, led_as}
 
 -- with what others learn of an act of a keeper's process, or of whoever hands its log over
 abbrev pub with_out : ProcessWorld → ℕ → Out → ProcessWorld

@@ -1,12 +1,12 @@
 -- What ties the world to the theory of fencing. Machinery: nothing here needs to be believed.
-use Rattle.std.specs.Prelude.{ℕ, ◌≡◌, ◌<◌, ◌≤◌, List, [], Contains, slice_get, Option, Some}
+use Rattle.std.specs.Prelude.{ℕ, ◌≡◌, ◌≤◌, List, [], Contains, slice_get, Option, Some}
 use Rattle.ft_types.specs.Counts.{count_at}
 use Rattle.ft_types.specs.Guests.{GuestParts}
 use Rattle.ft_types.specs.declared.output.Output.{Output}
 use Rattle.input_log.specs.Notes.{notes_of}
 use Rattle.interleaving.specs.Stored.{system_of}
 use Rattle.rv32_hart.specs.Hardware.{hardware}
-use Rattle.guest_image.specs.Image.{ImageContents, guest_of}
+use Rattle.guest_image.specs.Image.{guest_of}
 use Rattle.hart_lease.specs.Runs.{LeadsTo}
 use Rattle.book_modes.specs.Recordings.{heard_by}
 use Rattle.fragment_codec.specs.Rules.{FragmentParts}
