@@ -42,6 +42,61 @@ fn identity_of(file: &Metadata) -> Identity {
     }
 }
 
+/// By what it is known that a file, which is only added to, has what it had.
+#[derive(Clone, Copy, PartialEq, Eq)]
+struct Stamp {
+    device: u64,
+    inode: u64,
+    size: u64,
+    /// When it was changed last, in seconds and nanoseconds.
+    changed: (i64, i64),
+}
+
+/// What a file had when it was read last.
+#[derive(Drop)]
+struct LastRead {
+    stamp: Stamp,
+    bytes: Vec<u8>,
+}
+
+/// The stamp of a file. None of a link, which does not tell what becomes of the file behind it.
+fn stamp_of(file: &Metadata) -> Option<Stamp> {
+    if file.is_symlink() {
+        return None;
+    }
+    Some(Stamp {
+        device: file.dev(),
+        inode: file.ino(),
+        size: file.size(),
+        changed: (file.ctime(), file.ctime_nsec()),
+    })
+}
+
+/// The stamp of the file of a name. None where it is not there.
+fn stamp_if_there<R: Paths + AllocGlobal>(rt: &R, name: &str) -> io::Result<Option<Stamp>> {
+    match rt.look_at(name) {
+        Ok(found) => Ok(stamp_of(&found)),
+        Err(error) if error.kind() == io::ErrorKind::NotFound => Ok(None),
+        Err(error) => Err(error),
+    }
+}
+
+/// What the file of a name has; nothing where it is not there.
+fn read_if_there<R: Paths + AllocGlobal>(rt: &R, name: &str) -> io::Result<Vec<u8>> {
+    match read_file(rt, name) {
+        Err(error) if error.kind() == io::ErrorKind::NotFound => Ok(Vec::new(rt.alloc())),
+        read => read,
+    }
+}
+
+/// A copy of bytes.
+fn copy_of(alloc: Global, bytes: &[u8]) -> io::Result<Vec<u8>> {
+    match bytes.to_vec(alloc) {
+        Ok(copy) => Ok(copy),
+        Err(AllocError) => Err(io::Error::from(io::ErrorKind::OutOfMemory)),
+    }
+}
+
 /// An open file, or the error that it is not.
 fn open_file(file: &mut Option<File>) -> io::Result<&mut File> {
     match file {
@@ -58,6 +113,8 @@ pub struct Places {
     mark: String,
     open_log: Option<File>,
     open_fences: Option<File>,
+    /// The fences, as they were read last.
+    last_read: Option<LastRead>,
 }
 
 impl Places {
@@ -72,6 +129,7 @@ impl Places {
             mark,
             open_log: None,
             open_fences: None,
+            last_read: None,
         })
     }
 
@@ -161,11 +219,24 @@ impl<R: Paths + AllocGlobal + Copy> Disk for HostDisk<R> {
         Ok(bytes)
     }
 
+    /// They are not read again while they have the stamp that they had before they were read last: a fence makes them longer.
     fn read_fences(&mut self, alloc: Global) -> io::Result<Vec<u8>> {
-        match read_file(&self.rt, self.places.fences.as_str()) {
-            Err(error) if error.kind() == io::ErrorKind::NotFound => Ok(Vec::new(alloc)),
-            read => read,
+        let stamp = stamp_if_there(&self.rt, self.places.fences.as_str())?;
+        if let Some(stamp) = stamp
+            && let Some(last) = &self.places.last_read
+            && last.stamp == stamp
+        {
+            return copy_of(alloc, last.bytes.as_slice());
         }
+        let bytes = read_if_there(&self.rt, self.places.fences.as_str())?;
+        self.places.last_read = match stamp {
+            Some(stamp) => Some(LastRead {
+                stamp,
+                bytes: copy_of(alloc, bytes.as_slice())?,
+            }),
+            None => None,
+        };
+        Ok(bytes)
     }
 
     fn cut(&mut self, size: usize) -> io::Result<()> {
