@@ -1,4 +1,4 @@
-//! The disk of a keeper: one call of the system for each that is asked for. What it holds outside is in no contract.
+//! The disk of a keeper, by calls of the system; fences that were not changed are remembered. What it holds outside is in no contract.
 
 ghost use Rattle.std.specs.Prelude.{⊤};
 
