@@ -1,7 +1,5 @@
 //! What happens to a client.
 
-ghost use Rattle.std.specs.Prelude.{◌≡◌, ◌×◌, IfOk, IfErr, OnOk, OnErr};
-
 use crate::room::make_room;
 use asking::{Heard, Talk};
 use ft_types::Memory;

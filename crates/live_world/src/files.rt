@@ -1,9 +1,12 @@
 //! A keeper's files in memory: they tell all that happened to them.
 
-ghost use Rattle.std.specs.Prelude.{◌≡◌, ◌≤◌, ◌×◌, ℕ, List, length, take, IfOk, OnOk, OnErr};
-ghost use Rattle.stations.specs.Handshake.{Crash, after};
-ghost use Rattle.live_world.specs.Telling.{AreActs, keeper_acts, happenings_in};
-ghost use Rattle.live_world.specs.Shelves.{files_of, HandDoes, IsShelf, PlanIsDone};
+ghost use Rattle.std.specs.Prelude.{◌≡◌, ◌+◌, ◌≤◌, ◌++◌, ℕ, List, [], ◌∷◌, false, true, length, take, None, Some, IfOk, IfSome, IfNone, OnOk, OnErr};
+ghost use Rattle.stations.specs.Acts.{Act};
+ghost use Rattle.stations.specs.Handshake.{Crash, IsBeginning, after};
+ghost use Rattle.keeper_disks.specs.Disks.{Gives, Nothing, Hand as HandView};
+ghost use Rattle.keeper_disks.specs.Standing.{nothing_there};
+ghost use Rattle.live_world.specs.Shelves.{HandDoes, HasCrashed};
+ghost use Rattle.live_world.specs.Telling.{AreActs};
 
 use crate::event::{HandAct, Meanwhile, Planned};
 use crate::fault::EventFault;
@@ -13,6 +16,7 @@ use crate::room::make_room;
 use ft_types::{Memory, Term};
 use stations::{FenceFault, FilesFault, KeeperFiles};
 use std::alloc::Global;
+use std::marker::Model;
 use std::mem;
 use std::result::Result;
 
@@ -38,6 +42,23 @@ pub struct MemoryFiles {
     crashed: bool,
 }
 
+impl Model for MemoryFiles {
+    ghost use Rattle.live_world.specs.Shelves.{ShelfView, files_of, hand_of, read_of, IsShelf};
+    ghost use Rattle.live_world.specs.Telling.{keeper_acts, happenings_in};
+
+    ghost Value = { ShelfView };
+
+    ghost view = { λ f. record {
+      files = files_of f.log.items f.safe f.fence;
+      hand = hand_of f.hand;
+      acts = keeper_acts f.happened.items;
+      lacked = f.lacked;
+      read = read_of f.hand;
+    } };
+
+    ghost invariant = { λ f. IsShelf f.log.items f.safe f.fence (happenings_in f.happened.items) f.hand };
+}
+
 /// What becomes of the keeper's next act.
 #[derive(Clone, Copy)]
 enum Turn {
@@ -50,6 +71,7 @@ enum Turn {
 impl MemoryFiles {
     /// Files with which nothing was done.
     pub fn new(alloc: Global) -> MemoryFiles
+        ensures { result ≡ record { files = nothing_there.files; hand = nothing_there.hand; acts = []; lacked = false; read = None } }
     {
         MemoryFiles {
             log: Vec::new(alloc),
@@ -66,21 +88,21 @@ impl MemoryFiles {
 
     /// The bytes of the log, as they are seen.
     pub fn log(&self) -> &[u8]
-        ensures { result.now ≡ self.now.log.items }
+        ensures { result.now ≡ self.now.files.log }
     {
         self.log.as_slice()
     }
 
     /// How many bytes of the log are on disk.
     pub fn safe(&self) -> usize
-        ensures { result ≡ self.now.safe }
+        ensures { take result self.now.files.log ≡ self.now.files.safe }
     {
         self.safe
     }
 
     /// The last fence, 0 where there is none.
     pub fn fence(&self) -> Term
-        ensures { result ≡ self.now.fence }
+        ensures { result ≡ self.now.files.fence }
     {
         self.fence
     }
@@ -112,7 +134,10 @@ impl MemoryFiles {
     }
 
     /// The machine crashes, and leaves so many bytes of the log, and what is on disk at least. Want of memory changes nothing.
-    pub(crate) fn crash(&mut self, left: usize) -> Result<(), Memory> {
+    pub(crate) fn crash(&mut self, left: usize) -> Result<(), Memory>
+        ensures crashed { OnOk result (HasCrashed self.old self.new) }
+        ensures err { OnErr result (self.new ≡ self.old) }
+    {
         let size = left.max(self.safe).min(self.log.len());
         make_room(&mut self.happened)?;
         let bytes = self.log.as_slice()[..size].to_vec(*self.log.allocator())?;
@@ -167,7 +192,10 @@ impl MemoryFiles {
     }
 
     /// Whoever hands the log over does this next. An `Err` changes nothing.
-    pub(crate) fn hand_does(&mut self, alloc: Global, act: HandAct) -> Result<(), EventFault> {
+    pub(crate) fn hand_does(&mut self, alloc: Global, act: HandAct) -> Result<(), EventFault>
+        ensures done { OnOk result (HandDoes act self.old self.new) }
+        ensures err { OnErr result (self.new ≡ self.old) }
+    {
         match act {
             HandAct::Looks => self.look(),
             HandAct::Fences(term) => self.put_fence(alloc, term),
@@ -180,7 +208,10 @@ impl MemoryFiles {
     }
 
     /// The two fences and the log of whoever has read it: nobody is there behind that.
-    pub(crate) fn take_read(&mut self) -> Option<(Term, Term, Vec<u8>)> {
+    pub(crate) fn take_read(&mut self) -> Option<(Term, Term, Vec<u8>)>
+        ensures some { IfSome result (λ r. (self.old.read ≡ Some r.2.items) × (self.new ≡ record self.old { read = None })) }
+        ensures none { IfNone result ((self.old.read ≡ None) × (self.new ≡ self.old)) }
+    {
         match mem::replace(&mut self.hand, Stage::Nobody) {
             Stage::HasRead(last, term, log) => Some((last, term, log)),
             stage => {
@@ -191,7 +222,9 @@ impl MemoryFiles {
     }
 
     /// This is to happen between the acts of the keeper's next call.
-    pub(crate) fn plan(&mut self, plan: Vec<Planned>) {
+    pub(crate) fn plan(&mut self, plan: Vec<Planned>)
+        ensures { self.new ≡ self.old }
+    {
         self.plan = plan;
         self.acted = 0;
         self.crashed = false;
@@ -252,7 +285,7 @@ impl MemoryFiles {
 }
 
 impl KeeperFiles for MemoryFiles {
-    ghost acts = { λ files done. AreActs (keeper_acts files.happened.items) files.lacked done };
+    ghost acts = { λ files done. AreActs files.acts files.lacked done };
 
     fn read_log(&mut self, alloc: Global) -> Result<Vec<u8>, FilesFault> {
         if let Turn::Fails(_) = self.begin_act(alloc)? {
@@ -269,7 +302,8 @@ impl KeeperFiles for MemoryFiles {
     }
 
     fn cut(&mut self, size: usize) -> Result<(), FilesFault> {
-        if let Turn::Fails(_) = self.begin_act(*self.log.allocator())? {
+        let alloc = *self.log.allocator();
+        if let Turn::Fails(_) = self.begin_act(alloc)? {
             return Err(self.fail(FilesFault::Log));
         }
         self.log.truncate(size);
@@ -279,7 +313,8 @@ impl KeeperFiles for MemoryFiles {
     }
 
     fn add(&mut self, bytes: &[u8]) -> Result<(), FilesFault> {
-        let turn = self.begin_act(*self.log.allocator())?;
+        let alloc = *self.log.allocator();
+        let turn = self.begin_act(alloc)?;
         let front = match turn {
             Turn::Does => bytes.len(),
             Turn::Fails(front) => front.min(bytes.len()),
@@ -294,7 +329,8 @@ impl KeeperFiles for MemoryFiles {
     }
 
     fn sync(&mut self) -> Result<(), FilesFault> {
-        if let Turn::Fails(_) = self.begin_act(*self.log.allocator())? {
+        let alloc = *self.log.allocator();
+        if let Turn::Fails(_) = self.begin_act(alloc)? {
             return Err(self.fail(FilesFault::Log));
         }
         self.safe = self.log.len();
@@ -311,7 +347,8 @@ impl KeeperFiles for MemoryFiles {
     }
 
     fn add_fence(&mut self, term: Term) -> Result<(), FilesFault> {
-        if let Turn::Fails(_) = self.begin_act(*self.log.allocator())? {
+        let alloc = *self.log.allocator();
+        if let Turn::Fails(_) = self.begin_act(alloc)? {
             return Err(self.fail(FilesFault::Fences));
         }
         self.fence = self.fence.max(term);

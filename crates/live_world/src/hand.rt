@@ -1,8 +1,8 @@
 //! Whoever hands a log over: its two calls over what it saw and did, act by act.
 
-ghost use Rattle.std.specs.Prelude.{◌≡◌, ◌<◌, ◌≤◌, ◌×◌, ℕ, List, IfOk, IfErr, OnOk};
+ghost use Rattle.std.specs.Prelude.{◌≡◌, ◌<◌, ◌≤◌, ℕ, List, IfOk, IfErr, OnOk};
 ghost use Rattle.live_world.specs.Telling.{AreActs, acts_in};
-ghost use Rattle.live_world.specs.Hands.{HasHanded, IsReadOf};
+ghost use Rattle.live_world.specs.Hands.{HasHanded};
 
 use crate::told::ToldAct;
 use ft_types::{Guest, Keeper, Memory, Term};

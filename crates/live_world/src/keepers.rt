@@ -1,7 +1,5 @@
 //! What happens at a keeper's machine.
 
-ghost use Rattle.std.specs.Prelude.{◌≡◌, ◌×◌, IfOk, IfErr, OnOk, OnErr};
-
 use crate::event::{HandAct, Planned};
 use crate::fault::EventFault;
 use crate::hand::{HandFault, HandedTo, hand_over};

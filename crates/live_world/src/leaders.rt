@@ -1,7 +1,5 @@
 //! What happens to a primary.
 
-ghost use Rattle.std.specs.Prelude.{◌≡◌, ◌×◌, IfOk, IfErr, OnOk, OnErr};
-
 use crate::fault::EventFault;
 use crate::hand::HandedTo;
 use crate::room::make_room;

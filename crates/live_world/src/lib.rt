@@ -11,6 +11,7 @@ mod leaders;
 mod room;
 mod seat;
 mod site;
+#[cfg(test)]
 mod tests;
 mod told;
 mod world;

@@ -1,6 +1,6 @@
 //! The processes of a pair, and all that was ever sent.
 
-ghost use Rattle.std.specs.Prelude.{◌≡◌, ◌×◌, false, IfOk, IfErr, OnOk, OnErr};
+ghost use Rattle.std.specs.Prelude.{◌≡◌, false, IfOk, IfErr, OnOk, OnErr};
 ghost use Rattle.process_world.specs.Worlds.{Begins};
 ghost use Rattle.live_world.specs.Views.{world_of};
 ghost use Rattle.live_world.specs.Following.{Follows};
@@ -22,6 +22,7 @@ use ft_types::{Count, Guest, Keeper, Memory, Quorum, Term};
 use guest_image::Image;
 use leading::{Leader, Spacing};
 use std::alloc::Global;
+use std::marker::Model;
 use std::result::Result;
 use wire::{Acknowledgement, Answer, Request};
 
@@ -42,9 +43,37 @@ pub struct LiveWorld {
     over: bool,
 }
 
+impl Model for LiveWorld {
+    ghost use Rattle.std.specs.Prelude.{map};
+    ghost use Rattle.live_world.specs.Views.{LiveView};
+
+    ghost Value = { LiveView };
+
+    ghost use Rattle.std.specs.Coded.{codes};
+    ghost use Rattle.log_join.specs.Stores.{coded_store};
+
+    ghost coded = { Prim.hlevel (codes, coded_store) };
+
+    ghost view = { λ w. record {
+      image = w.image;
+      keepers = w.quorum.keepers;
+      need = w.quorum.need;
+      sites = w.sites.items;
+      frames = map (λ batch. batch.items) w.frames.items;
+      said = w.said.items;
+      handed = w.handed.items;
+      led = w.led.items;
+      told = map (λ batch. batch.items) w.told.items;
+      asked = map (λ batch. batch.items) w.asked.items;
+      clients = w.clients.items;
+      over = w.over;
+    } };
+}
+
 impl LiveWorld {
     /// Keepers with nothing on disk, and nobody else.
     pub fn new(alloc: Global, image: &Image, quorum: Quorum) -> Result<LiveWorld, Memory>
+        ensures begins { IfOk result (λ w. Begins image.now quorum.keepers quorum.need (world_of w)) }
     {
         Ok(LiveWorld {
             image: image.copy()?,
