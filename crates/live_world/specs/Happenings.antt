@@ -1,5 +1,5 @@
 -- What each event does to the world that is led.
-use Rattle.std.specs.Prelude.{◌≡◌, ◌⊎◌, ◌+◌, ◌-◌, ◌++◌, ⊥, ℕ, true, false, List, [], ◌∷◌, drop, length, slice_get, slice_set, take, None, Some, Unit}
+use Rattle.std.specs.Prelude.{◌≡◌, ◌⊎◌, ◌+◌, ◌-◌, ◌++◌, ℕ, true, false, List, [], ◌∷◌, drop, length, slice_get, slice_set, take, None, Some}
 use Rattle.std.specs.Option.{option_to_list}
 use Rattle.interleaving.specs.Lists.{put}
 use Rattle.guest_image.specs.Image.{guest_of}

@@ -1,5 +1,5 @@
 -- Why events are refused, and what a refused one leaves.
-use Rattle.std.specs.Prelude.{◌≡◌, ◌≤◌, ◌⊎◌, ◌-◌, ⊥, ℕ, true, List, [], ◌∷◌, Contains, drop, length, slice_get, take, None, Some, Unit}
+use Rattle.std.specs.Prelude.{◌≡◌, ◌≤◌, ◌⊎◌, ◌-◌, ℕ, true, List, [], ◌∷◌, Contains, drop, length, slice_get, take, None, Some}
 use Rattle.ft_types.specs.declared.quorum.Quorum.{Quorum}
 use Rattle.fenced_keeper.specs.declared.keeper.Given.{Given}
 use Rattle.fragment_codec.specs.declared.frame.Frame.{Frame}

@@ -52,17 +52,29 @@ pub enum LiveEvent {
         piece: usize,
     },
     /// The keeper logs what came to it and acknowledges; between its acts this happens.
-    Log { keeper: Keeper, plan: Vec<Planned> },
+    Log {
+        keeper: Keeper,
+        plan: Vec<Planned>,
+    },
     /// A keeper's process ends.
     KeeperEnds(Keeper),
     /// A keeper's machine crashes, and leaves so many bytes of its log, and what is on disk at least.
-    Crash { keeper: Keeper, left: usize },
+    Crash {
+        keeper: Keeper,
+        left: usize,
+    },
     /// A keeper and all that it has on disk are gone for good.
     Lose(Keeper),
     /// Whoever hands the keeper's log over does this.
-    Hand { keeper: Keeper, act: HandAct },
+    Hand {
+        keeper: Keeper,
+        act: HandAct,
+    },
     /// A primary goes live in a term from what was handed over.
-    GoLive { term: Term, handed: Vec<usize> },
+    GoLive {
+        term: Term,
+        handed: Vec<usize>,
+    },
     /// What was asked for comes to a primary.
     Request {
         primary: usize,
@@ -78,13 +90,22 @@ pub enum LiveEvent {
     /// A primary cuts what is new of its log, and sends that.
     Seal(usize),
     /// What a keeper said comes to a primary.
-    Hear { primary: usize, said: usize },
+    Hear {
+        primary: usize,
+        said: usize,
+    },
     /// A primary tells an output that went out.
-    Tell { primary: usize, released: usize },
+    Tell {
+        primary: usize,
+        released: usize,
+    },
     /// A primary's process ends.
     End(usize),
     /// A client comes, with words for hart 0, of which so many may be open.
-    Join { words: Vec<u32>, window: usize },
+    Join {
+        words: Vec<u32>,
+        window: usize,
+    },
     /// Whoever there is asks for something by hand.
     Want(Request),
     /// A client asks for its next word.

@@ -1,6 +1,5 @@
 //! Why an event is refused.
 
-
 use fragment_codec::FrameFault;
 use ft_types::{Memory, Term};
 use leading::{HandedFault, LeadFault};

@@ -11,8 +11,8 @@ ghost use Rattle.live_world.specs.Telling.{AreActs};
 use crate::event::{HandAct, Meanwhile, Planned};
 use crate::fault::EventFault;
 use crate::hand::{Stage, copy_of, fenced};
-use crate::told::{Happened, Party, ToldAct};
 use crate::room::make_room;
+use crate::told::{Happened, Party, ToldAct};
 use ft_types::{Memory, Term};
 use stations::{FenceFault, FilesFault, KeeperFiles};
 use std::alloc::Global;
@@ -124,7 +124,8 @@ impl MemoryFiles {
 
     /// The keeper did this, for which there is room.
     fn did(&mut self, act: ToldAct) {
-        self.happened.push_reserved(Happened::Did(Party::Keeper, act));
+        self.happened
+            .push_reserved(Happened::Did(Party::Keeper, act));
     }
 
     /// The keeper's act failed, for which there is room.

@@ -6,7 +6,7 @@ ghost use Rattle.live_world.specs.Hands.{HasHanded};
 
 use crate::told::ToldAct;
 use ft_types::{Guest, Keeper, Memory, Term};
-use stations::{FencedLog, FenceFault, FilesFault, HandedOver, KeeperFiles, LogFault, fence_off};
+use stations::{FenceFault, FencedLog, FilesFault, HandedOver, KeeperFiles, LogFault, fence_off};
 use std::alloc::Global;
 use std::result::Result;
 
@@ -58,8 +58,7 @@ impl SeenFiles {
     }
 
     /// Tells an act, where that can be told, and nothing was left out before.
-    fn tell(&mut self, act: ToldAct) -> Result<(), FilesFault>
-    {
+    fn tell(&mut self, act: ToldAct) -> Result<(), FilesFault> {
         if self.lacked || self.acts.reserve(1).is_err() {
             return Err(self.lack());
         }

@@ -3,6 +3,7 @@
 use crate::fault::EventFault;
 use crate::hand::HandedTo;
 use crate::room::make_room;
+use crate::seat::Seat;
 use fenced_keeper::Given;
 use fragment_codec::Frame;
 use ft_types::{Guest, Memory, Quorum, Term};
@@ -81,14 +82,28 @@ pub(crate) fn hear(
     }
 }
 
-/// An output of this number that went out, as it is told.
-pub(crate) fn told_of(leader: &Leader, number: usize) -> Option<Answer> {
+/// What the primary of this number tells of an output that went out, as a batch.
+pub(crate) fn told_by(
+    alloc: Global,
+    led: &[Option<Seat>],
+    primary: usize,
+    number: usize,
+) -> Result<Vec<Answer>, EventFault> {
+    if primary >= led.len() {
+        return Err(EventFault::NoPrimary);
+    }
+    let Some(Seat { leader, runs: true }) = &led[primary] else {
+        return Err(EventFault::NoPrimary);
+    };
     let released = leader.released();
     if number >= released.len() {
-        return None;
+        return Err(EventFault::NoneOut);
     }
-    Some(Answer {
+    let mut batch = Vec::new(alloc);
+    make_room(&mut batch)?;
+    batch.push_reserved(Answer {
         term: leader.term(),
         output: released[number].output,
-    })
+    });
+    Ok(batch)
 }

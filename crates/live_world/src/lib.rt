@@ -1,6 +1,8 @@
 //! A pair's processes together, led by a list of events: each makes the calls that ship, over keepers' files in memory.
 #![tactic(auto)]
 
+#[cfg(test)]
+mod acting;
 mod clients;
 mod event;
 mod fault;

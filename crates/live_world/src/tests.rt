@@ -1,162 +1,21 @@
-//! Lists of events, followed by hand: three keepers, of whom two must hold an output, over a guest that says each word that it is given.
+//! Lists of events, followed by hand.
 
+use crate::acting::{
+    FIRST, SECOND, THIRD, gives, go_live, goes_round, hands, happens, hears, is_refused, keeper,
+    logging, logs, outputs, sizes, takes, told_last, world_of,
+};
 use crate::event::{HandAct, LiveEvent, Meanwhile, Planned};
 use crate::fault::EventFault;
 use crate::world::LiveWorld;
-use ft_types::{Count, Hart, Keeper, Quorum, Term};
-use go_live::LiveFault;
 use fenced_live::GivenFault;
-use guest_image::{Image, read_image};
-use leading::{LeadFault, Spacing};
+use ft_types::{Hart, Term};
+use go_live::LiveFault;
+use leading::LeadFault;
 use stations::FilesFault;
 use std::alloc::Global;
 use std::result::Result;
 use std::test::Fail;
 use wire::Request;
-
-/// It goes round until INSEQ has changed, clears the word's interrupt, reads the word, and puts it out.
-const SAYS_ALL: &[u8] =
-    b"harts 1\npages 1\nf00000b7\n00000293\n00001337\n00135313\n0040a103\nfe510ee3\n0060a623\n0000a183\n00010293\n0030a423\nfe9ff06f\n";
-
-/// The steps of a round, in which a word is said.
-const STEPS: Count = 240;
-
-/// The keepers, by their numbers.
-const FIRST: u8 = 0;
-
-const SECOND: u8 = 1;
-
-const THIRD: u8 = 2;
-
-fn keeper(number: u8) -> Keeper {
-    Keeper::new(number % 5)
-}
-
-fn image_of(alloc: Global) -> Result<Image, Fail> {
-    match read_image(alloc, SAYS_ALL) {
-        Ok(image) => Ok(image),
-        Err(_) => Err("an image".into()),
-    }
-}
-
-/// A world of three keepers in which nothing has happened.
-fn world_of(alloc: Global) -> Result<LiveWorld, Fail> {
-    let Some(quorum) = Quorum::new(3, 2) else {
-        return Err("a quorum".into());
-    };
-    Ok(LiveWorld::new(alloc, &image_of(alloc)?, quorum)?)
-}
-
-/// It happens.
-fn happens(alloc: Global, world: &mut LiveWorld, event: LiveEvent) -> Result<(), Fail> {
-    match world.apply(alloc, event) {
-        Ok(()) => Ok(()),
-        Err(_) => Err("an event is refused".into()),
-    }
-}
-
-/// Whether it is refused so.
-fn is_refused(alloc: Global, world: &mut LiveWorld, event: LiveEvent, wanted: EventFault) -> bool {
-    match world.apply(alloc, event) {
-        Ok(()) => false,
-        Err(fault) => fault == wanted,
-    }
-}
-
-/// A keeper takes whole batches, each in pieces of 7 bytes.
-fn takes(alloc: Global, world: &mut LiveWorld, number: u8, batches: &[usize]) -> Result<(), Fail> {
-    for batch in batches {
-        let to = match world.frames().get(*batch) {
-            Some(frames) => frames.len(),
-            None => return Err("a batch".into()),
-        };
-        let event = LiveEvent::Take {
-            keeper: keeper(number),
-            batch: *batch,
-            from: 0,
-            to,
-            piece: 7,
-        };
-        happens(alloc, world, event)?;
-    }
-    Ok(())
-}
-
-/// A keeper's call between whose acts this happens.
-fn logging(alloc: Global, number: u8, plan: &[Planned]) -> Result<LiveEvent, Fail> {
-    Ok(LiveEvent::Log {
-        keeper: keeper(number),
-        plan: plan.to_vec(alloc)?,
-    })
-}
-
-fn logs(alloc: Global, world: &mut LiveWorld, number: u8) -> Result<(), Fail> {
-    happens(alloc, world, logging(alloc, number, &[])?)
-}
-
-fn hands(alloc: Global, world: &mut LiveWorld, number: u8, acts: &[HandAct]) -> Result<(), Fail> {
-    for act in acts {
-        let event = LiveEvent::Hand {
-            keeper: keeper(number),
-            act: *act,
-        };
-        happens(alloc, world, event)?;
-    }
-    Ok(())
-}
-
-/// The keeper's log is fenced off for the term, and handed over.
-fn gives(alloc: Global, world: &mut LiveWorld, number: u8, term: Term) -> Result<(), Fail> {
-    hands(
-        alloc,
-        world,
-        number,
-        &[HandAct::Looks, HandAct::Fences(term), HandAct::Reads],
-    )
-}
-
-fn go_live(
-    alloc: Global,
-    world: &mut LiveWorld,
-    term: Term,
-    numbers: &[usize],
-) -> Result<(), Fail> {
-    let handed = numbers.to_vec(alloc)?;
-    happens(alloc, world, LiveEvent::GoLive { term, handed })
-}
-
-/// A primary's round, and what it sends of it.
-fn goes_round(alloc: Global, world: &mut LiveWorld, primary: usize) -> Result<(), Fail> {
-    let event = LiveEvent::Round {
-        primary,
-        steps: STEPS,
-        spacing: Spacing::Usual,
-    };
-    happens(alloc, world, event)?;
-    happens(alloc, world, LiveEvent::Seal(primary))
-}
-
-fn hears(alloc: Global, world: &mut LiveWorld, primary: usize, said: usize) -> Result<(), Fail> {
-    happens(alloc, world, LiveEvent::Hear { primary, said })
-}
-
-/// How many outputs of a primary went out, and how many did not.
-fn outputs(world: &LiveWorld, primary: usize) -> Option<(usize, usize)> {
-    let leader = world.leader(primary)?;
-    Some((leader.released().len(), leader.kept()))
-}
-
-/// What was told last: its term and its word.
-fn told_last(world: &LiveWorld) -> Option<(Term, u32)> {
-    let batch = world.told().last()?;
-    let answer = batch.last()?;
-    Some((answer.term, answer.output.word))
-}
-
-/// How many were said and handed over.
-fn sizes(world: &LiveWorld) -> (usize, usize) {
-    (world.said().len(), world.handed().len())
-}
 
 /// All keepers begin, their logs are handed over to term 1, and its primary goes live from the first two. A client asks for the word 7, of which its
 /// round tells: batch 0 is the opening, batch 1 the log of that round.
@@ -406,14 +265,33 @@ fn live_of(alloc: Global, term: Term, numbers: &[usize]) -> Result<LiveEvent, Fa
 
 /// Whether each event of keepers is refused so.
 fn keepers_are_refused(alloc: Global, world: &mut LiveWorld) -> Result<bool, Fail> {
-    let lost = is_refused(alloc, world, LiveEvent::Begin(keeper(4)), EventFault::NoKeeper)
-        && is_refused(alloc, world, LiveEvent::Lose(keeper(4)), EventFault::NoKeeper);
-    let runs = is_refused(alloc, world, LiveEvent::Begin(keeper(FIRST)), EventFault::Runs);
+    let lost = is_refused(
+        alloc,
+        world,
+        LiveEvent::Begin(keeper(4)),
+        EventFault::NoKeeper,
+    ) && is_refused(
+        alloc,
+        world,
+        LiveEvent::Lose(keeper(4)),
+        EventFault::NoKeeper,
+    );
+    let runs = is_refused(
+        alloc,
+        world,
+        LiveEvent::Begin(keeper(FIRST)),
+        EventFault::Runs,
+    );
     happens(alloc, world, LiveEvent::KeeperEnds(keeper(THIRD)))?;
     let rests = is_refused(alloc, world, take_of(THIRD, 0), EventFault::Rests)
         && is_refused(alloc, world, logging(alloc, THIRD, &[])?, EventFault::Rests);
     let no_frame = is_refused(alloc, world, take_of(FIRST, 9), EventFault::NoFrame);
-    let no_turn = is_refused(alloc, world, hand_of(FIRST, HandAct::Reads), EventFault::NoTurn);
+    let no_turn = is_refused(
+        alloc,
+        world,
+        hand_of(FIRST, HandAct::Reads),
+        EventFault::NoTurn,
+    );
     hands(alloc, world, FIRST, &[HandAct::Looks])?;
     let fenced = is_refused(
         alloc,
@@ -426,8 +304,18 @@ fn keepers_are_refused(alloc: Global, world: &mut LiveWorld) -> Result<bool, Fai
 
 /// Whether each event of primaries is refused so.
 fn primaries_are_refused(alloc: Global, world: &mut LiveWorld) -> Result<bool, Fail> {
-    let granted = is_refused(alloc, world, live_of(alloc, 1, &[0, 1])?, EventFault::Granted);
-    let none = is_refused(alloc, world, live_of(alloc, 2, &[9])?, EventFault::NoneHanded);
+    let granted = is_refused(
+        alloc,
+        world,
+        live_of(alloc, 1, &[0, 1])?,
+        EventFault::Granted,
+    );
+    let none = is_refused(
+        alloc,
+        world,
+        live_of(alloc, 2, &[9])?,
+        EventFault::NoneHanded,
+    );
     let few = EventFault::Lead(LeadFault::NotLive(GivenFault::Live(LiveFault::TooFewStores)));
     let lead = is_refused(alloc, world, live_of(alloc, 2, &[])?, few);
     let other = EventFault::Lead(LeadFault::NotLive(GivenFault::OtherTerm));

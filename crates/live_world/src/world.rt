@@ -7,15 +7,13 @@ ghost use Rattle.live_world.specs.Following.{Follows};
 ghost use Rattle.live_world.specs.Happenings.{Happening};
 ghost use Rattle.live_world.specs.Refusals.{Refuses, IsLeft};
 
-use crate::clients::{ask, hear as hear_answer};
 use crate::event::{HandAct, LiveEvent, Planned};
 use crate::fault::EventFault;
 use crate::hand::HandedTo;
-use crate::keepers;
-use crate::leaders;
+use crate::room::make_room;
 use crate::seat::{Seat, is_granted, put_seat, take_seat};
 use crate::site::{Site, empty_sites, put_site, take_site};
-use crate::room::make_room;
+use crate::{clients, keepers, leaders};
 use asking::Talk;
 use fragment_codec::Frame;
 use ft_types::{Count, Guest, Keeper, Memory, Quorum, Term};
@@ -175,7 +173,12 @@ impl LiveWorld {
     }
 
     /// What is handed over by whoever has read the keeper's log, if anybody.
-    fn hand_on(&mut self, alloc: Global, keeper: Keeper, site: &mut Site) -> Result<(), EventFault> {
+    fn hand_on(
+        &mut self,
+        alloc: Global,
+        keeper: Keeper,
+        site: &mut Site,
+    ) -> Result<(), EventFault> {
         make_room(&mut self.handed)?;
         if let Some(handed) = keepers::handed(alloc, &self.guest(), keeper, site)? {
             self.handed.push_reserved(handed);
@@ -202,12 +205,7 @@ impl LiveWorld {
         }
     }
 
-    fn log(
-        &mut self,
-        alloc: Global,
-        keeper: Keeper,
-        plan: Vec<Planned>,
-    ) -> Result<(), EventFault> {
+    fn log(&mut self, alloc: Global, keeper: Keeper, plan: Vec<Planned>) -> Result<(), EventFault> {
         let Some(mut site) = take_site(&mut self.sites, keeper) else {
             return Err(EventFault::NoKeeper);
         };
@@ -263,20 +261,24 @@ impl LiveWorld {
 
     // ---- primaries
 
+    /// The primary of a term that goes live from what was handed over, by these numbers, and what it sends first.
+    fn live(
+        &self,
+        alloc: Global,
+        term: Term,
+        numbers: &[usize],
+    ) -> Result<(Leader, Vec<Frame>), EventFault> {
+        let handed = self.handed.as_slice();
+        leaders::go_live(alloc, &self.image, self.quorum, term, handed, numbers)
+    }
+
     fn go_live(&mut self, alloc: Global, term: Term, numbers: &[usize]) -> Result<(), EventFault> {
         if is_granted(self.led.as_slice(), term) {
             return Err(EventFault::Granted);
         }
         make_room(&mut self.led)?;
         make_room(&mut self.frames)?;
-        let (leader, batch) = leaders::go_live(
-            alloc,
-            &self.image,
-            self.quorum,
-            term,
-            self.handed.as_slice(),
-            numbers,
-        )?;
+        let (leader, batch) = self.live(alloc, term, numbers)?;
         self.frames.push_reserved(batch);
         self.led.push_reserved(Some(Seat { leader, runs: true }));
         Ok(())
@@ -354,26 +356,9 @@ impl LiveWorld {
         Ok(heard?)
     }
 
-    /// What a primary tells of an output that went out, as a batch.
-    fn told_by(&self, alloc: Global, primary: usize, number: usize) -> Result<Vec<Answer>, EventFault> {
-        if primary >= self.led.len() {
-            return Err(EventFault::NoPrimary);
-        }
-        let Some(Seat { leader, runs: true }) = &self.led[primary] else {
-            return Err(EventFault::NoPrimary);
-        };
-        let mut batch = Vec::new(alloc);
-        make_room(&mut batch)?;
-        match leaders::told_of(leader, number) {
-            Some(answer) => batch.push_reserved(answer),
-            None => return Err(EventFault::NoneOut),
-        }
-        Ok(batch)
-    }
-
     fn tell(&mut self, alloc: Global, primary: usize, number: usize) -> Result<(), EventFault> {
-        let batch = self.told_by(alloc, primary, number)?;
         make_room(&mut self.told)?;
+        let batch = leaders::told_by(alloc, &self.led, primary, number)?;
         self.told.push_reserved(batch);
         Ok(())
     }
@@ -382,7 +367,14 @@ impl LiveWorld {
         let Some(Seat { leader, runs: _ }) = take_seat(&mut self.led, primary) else {
             return Err(EventFault::NoPrimary);
         };
-        put_seat(&mut self.led, primary, Seat { leader, runs: false });
+        put_seat(
+            &mut self.led,
+            primary,
+            Seat {
+                leader,
+                runs: false,
+            },
+        );
         Ok(())
     }
 
@@ -396,30 +388,21 @@ impl LiveWorld {
     }
 
     fn want(&mut self, alloc: Global, request: Request) -> Result<(), EventFault> {
-        let mut batch = Vec::new(alloc);
-        make_room(&mut batch)?;
         make_room(&mut self.asked)?;
-        batch.push_reserved(request);
-        self.asked.push_reserved(batch);
+        self.asked.push_reserved(clients::alone(alloc, request)?);
         Ok(())
     }
 
     fn ask(&mut self, alloc: Global, client: usize) -> Result<(), EventFault> {
-        if client >= self.clients.len() {
-            return Err(EventFault::NoClient);
-        }
         make_room(&mut self.asked)?;
-        let batch = ask(alloc, &mut self.clients[client])?;
+        let batch = clients::ask(alloc, &mut self.clients, client)?;
         self.asked.push_reserved(batch);
         Ok(())
     }
 
     fn ask_again(&mut self, alloc: Global, client: usize) -> Result<(), EventFault> {
-        if client >= self.clients.len() {
-            return Err(EventFault::NoClient);
-        }
         make_room(&mut self.asked)?;
-        let batch = self.clients[client].ask_again(alloc)?;
+        let batch = clients::ask_again(alloc, &self.clients, client)?;
         self.asked.push_reserved(batch);
         Ok(())
     }
@@ -436,19 +419,7 @@ impl LiveWorld {
         let Some(answer) = self.told_at(batch, number) else {
             return Err(EventFault::NoneTold);
         };
-        if client >= self.clients.len() {
-            return Err(EventFault::NoClient);
-        }
-        let _heard = hear_answer(&mut self.clients[client], &answer);
-        Ok(())
-    }
-
-    fn print(&mut self, client: usize) -> Result<(), EventFault> {
-        if client >= self.clients.len() {
-            return Err(EventFault::NoClient);
-        }
-        let _told = self.clients[client].tell();
-        Ok(())
+        clients::hear(&mut self.clients, client, &answer)
     }
 
     // ---- events
@@ -504,7 +475,7 @@ impl LiveWorld {
                 batch,
                 number,
             } => self.answer(client, batch, number),
-            LiveEvent::Print(client) => self.print(client),
+            LiveEvent::Print(client) => clients::print(&mut self.clients, client),
             _ => Ok(()),
         }
     }
