@@ -1,5 +1,4 @@
 -- What happens one behind the other.
-use Rattle.std.specs.Prelude.{List, [], ◌∷◌}
 use Rattle.process_world.specs.Worlds.{ProcessWorld}
 use Rattle.process_world.specs.Happenings.{Happens}
 

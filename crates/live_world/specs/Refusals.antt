@@ -131,6 +131,7 @@ IsLeftByMemory v event w = w ≡ v
 -- what a refused event leaves: all as it was, but that a keeper's files failed or memory was refused
 abbrev pub IsLeft : LiveView → LiveEvent → EventFault → LiveView → Type 0
 IsLeft v (on.Log keeper plan) (fault.Files why) w = AtSite v keeper (λ d acts outs e. e.keeper ≡ Away) w
+IsLeft v (on.Log keeper plan) (fault.Log why) w = AtSite v keeper (λ d acts outs e. Unit {0}) w
 IsLeft v (on.Begin keeper) (fault.Log why) w = world_of w ≡ world_of v
 IsLeft v (on.Hand keeper act) (fault.Log why) w = AtSite v keeper (λ d acts outs e. (acts ≡ []) × (e.keeper ≡ d.keeper)) w
 IsLeft v event fault.Memory w = IsLeftByMemory v event w

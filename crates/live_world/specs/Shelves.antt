@@ -1,8 +1,8 @@
 -- A keeper's files in memory.
-use Rattle.std.specs.Prelude.{◌≡◌, ◌≤◌, ◌<◌, ℕ, Bool, List, [], length, take, Option, None, Some}
+use Rattle.std.specs.Prelude.{◌≡◌, ◌≤◌, ◌<◌, ℕ, Bool, List, [], ◌∷◌, length, take, Option, None, Some}
 use Rattle.stations.specs.Acts.{Act, SawLog, SawFence, Fenced}
-use Rattle.stations.specs.Handshake.{Files, Happening, Did, Crash, IsBeginning, after, all_after, AllTrue}
-use Rattle.keeper_disks.specs.Disks.{Hand, Nobody, Saw, HasFenced, Nothing, Hands, Gives}
+use Rattle.stations.specs.Handshake.{Files, Happening, Did, Crash, IsBeginning, after, all_after}
+use Rattle.keeper_disks.specs.Disks.{Hand, Nobody, Saw, HasFenced}
 use Rattle.keeper_disks.specs.Standing.{nothing_there}
 use Rattle.live_world.specs.declared.event.HandAct.{HandAct}
 use Rattle.live_world.specs.declared.event.HandAct.TheVariants as hands
@@ -37,11 +37,22 @@ IsStage (stage.HasFenced last term) = last < term
 IsStage (stage.HasRead last term log) = last < term
 IsStage stage = Unit {0}
 
--- the files are what all that happened comes to, from nothing; who read them saw what was there
+-- whoever reads sees what is there, and a crash leaves what is on disk, and no more than the log
+abbrev pub IsSeen : Files → Happening → Type 0
+IsSeen files (Did (SawLog bytes)) = bytes ≡ files.log
+IsSeen files (Did (SawFence fence)) = fence ≡ files.fence
+IsSeen files (Crash left) = IsBeginning files.safe left × IsBeginning left files.log
+IsSeen files other = Unit {0}
+
+abbrev pub AreSeen : Files → List Happening → Type 0
+AreSeen files [] = Unit {0}
+AreSeen files (next ∷ all) = IsSeen files next × AreSeen (after files next) all
+
+-- the files are what all that happened comes to, from nothing
 pub record IsShelf (log : List ℕ) (safe fence : ℕ) (all : List Happening) (hand : Stage) : Type 0 where
   pub on_disk : safe ≤ length log
   pub comes_to : files_of log safe fence ≡ all_after nothing_there.files all
-  pub true_all : AllTrue nothing_there.files all
+  pub seen : AreSeen nothing_there.files all
   pub stands : IsStage hand
 
 -- the machine crashed: what was on disk is there still, and behind it what the log had; whoever reads it has what it read

@@ -1,5 +1,5 @@
 -- The processes that are led, as a world of processes.
-use Rattle.std.specs.Prelude.{◌≡◌, ◌==◌, ℕ, Bool, true, false, List, [], ◌∷◌, ◌++◌, map, reverse, slice_get, Option, None, Some, option_map, zero, suc, if◌then◌else◌}
+use Rattle.std.specs.Prelude.{◌≡◌, ◌==◌, ℕ, Bool, List, [], ◌∷◌, map, reverse, slice_get, Option, None, Some, option_map, zero, suc, if◌then◌else◌}
 use Rattle.std.specs.List.{flat_map}
 use Rattle.guest_image.specs.Image.{ImageContents}
 use Rattle.fragment_codec.specs.declared.frame.Frame.{Frame}

@@ -168,7 +168,7 @@ impl MemoryFiles {
         match fenced(alloc, last, term, Vec::new(alloc)) {
             Ok(_) => {}
             Err(FenceFault::Fenced(last)) => return Err(EventFault::Fenced(last)),
-            Err(FenceFault::Files(fault)) => return Err(EventFault::Files(fault)),
+            Err(FenceFault::Files(_)) => return Err(EventFault::Memory),
         }
         make_room(&mut self.happened)?;
         self.happened

@@ -1,8 +1,8 @@
 //! Whoever hands a log over: its two calls over what it saw and did, act by act.
 
-ghost use Rattle.std.specs.Prelude.{◌≡◌, ◌<◌, ◌≤◌, ℕ, List, IfOk, IfErr, OnOk};
+ghost use Rattle.std.specs.Prelude.{◌≡◌, ◌<◌, IfOk, IfErr, OnOk};
 ghost use Rattle.live_world.specs.Telling.{AreActs, acts_in};
-ghost use Rattle.live_world.specs.Hands.{HasHanded};
+ghost use Rattle.live_world.specs.Hands.{HasHanded, IsNotFencedOff};
 
 use crate::told::ToldAct;
 use ft_types::{Guest, Keeper, Memory, Term};
@@ -120,7 +120,7 @@ pub(crate) fn fenced(
     log: Vec<u8>,
 ) -> Result<FencedLog<SeenFiles>, FenceFault>
     ensures above { OnOk result (last < term) }
-    ensures refused { IfErr result (λ f. (term ≤ last) × (f ≡ FenceFault.Fenced last)) }
+    ensures refused { IfErr result (λ f. IsNotFencedOff last term f) }
 {
     match fence_off(alloc, SeenFiles::new(alloc, last, log), term) {
         Ok(fenced) => Ok(fenced),
