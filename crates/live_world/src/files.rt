@@ -222,6 +222,13 @@ impl MemoryFiles {
         }
     }
 
+    /// The keeper begins anew: what was not told of it before, for want of memory, is left out.
+    pub(crate) fn begin_anew(&mut self)
+        ensures { self.new ≡ record self.old { lacked = false } }
+    {
+        self.lacked = false;
+    }
+
     /// This is to happen between the acts of the keeper's next call.
     pub(crate) fn plan(&mut self, plan: Vec<Planned>)
         ensures { self.new ≡ self.old }

@@ -21,6 +21,7 @@ pub(crate) fn begin(
     if site.station.is_some() {
         return Err(EventFault::Runs);
     }
+    site.files.begin_anew();
     site.files.plan(Vec::new(alloc));
     match KeeperStation::begin(alloc, guest, keeper, &mut site.files) {
         Ok(station) => {
