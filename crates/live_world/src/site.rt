@@ -1,0 +1,50 @@
+//! A keeper's machine: its files, and its process where that runs.
+
+ghost use Rattle.std.specs.Prelude.{◌≡◌, ◌<◌, length, slice_get, slice_set, None, Some, IfSome, IfNone};
+
+use crate::files::MemoryFiles;
+use ft_types::{Keeper, Memory};
+use stations::KeeperStation;
+use std::alloc::Global;
+use std::option::Option;
+use std::result::Result;
+
+/// A keeper's machine.
+#[derive(Drop)]
+pub struct Site {
+    /// Its files.
+    pub files: MemoryFiles,
+    /// Its process, between two calls.
+    pub station: Option<KeeperStation>,
+}
+
+/// So many machines with nothing on disk, and no process.
+pub(crate) fn empty_sites(alloc: Global, keepers: u8) -> Result<Vec<Option<Site>>, Memory> {
+    let mut sites = Vec::new(alloc);
+    for _ in 0..keepers {
+        sites.push(Some(Site {
+            files: MemoryFiles::new(alloc),
+            station: None,
+        }))?;
+    }
+    Ok(sites)
+}
+
+/// Takes a machine out, where it is there.
+pub(crate) fn take_site(sites: &mut Vec<Option<Site>>, keeper: Keeper) -> Option<Site>
+    ensures some { IfSome result (λ site. (slice_get sites.old.items keeper ≡ Some (Some site)) × (sites.new.items ≡ slice_set sites.old.items keeper None)) }
+    ensures none { IfNone result (sites.new.items ≡ sites.old.items) }
+{
+    if keeper.index() >= sites.len() {
+        return None;
+    }
+    sites[keeper.index()].take()
+}
+
+/// Puts a machine back.
+pub(crate) fn put_site(sites: &mut Vec<Option<Site>>, keeper: Keeper, site: Site)
+    requires { keeper < length sites.old.items }
+    ensures { sites.new.items ≡ slice_set sites.old.items keeper (Some site) }
+{
+    sites[keeper.index()] = Some(site);
+}
