@@ -1,19 +1,12 @@
--- What each event does to the world that is led.
-use Rattle.std.specs.Prelude.{◌≡◌, ◌⊎◌, ◌+◌, ◌-◌, ◌++◌, ℕ, true, false, List, [], ◌∷◌, drop, length, slice_get, slice_set, take, None, Some}
+-- What each event does to the processes that are led.
+use Rattle.std.specs.Prelude.{◌≡◌, ◌⊎◌, ◌+◌, ◌-◌, ◌++◌, ℕ, List, [], ◌∷◌, drop, length, slice_get, slice_set, take, Option, None, Some}
 use Rattle.std.specs.Option.{option_to_list}
-use Rattle.interleaving.specs.Lists.{put}
 use Rattle.guest_image.specs.Image.{guest_of}
 use Rattle.fragment_codec.specs.declared.frame.Frame.{Frame}
 use Rattle.fragment_codec.specs.declared.frame.Frame.TheVariants.{Opening}
-use Rattle.fragment_codec.specs.Streams.{Splits}
-use Rattle.log_join.specs.Coming.{IsJoinOf}
 use Rattle.log_pieces.specs.Pieces.{IsCut, book_log}
-use Rattle.ft_types.specs.declared.quorum.Quorum.{Quorum}
 use Rattle.primary.specs.declared.released.Released.{Released}
 use Rattle.fenced_keeper.specs.declared.keeper.Given.{Given}
-use Rattle.stations.specs.Acts.{Act, SawLog, CutTo}
-use Rattle.stations.specs.Stations.{StationView, logging}
-use Rattle.keeper_disks.specs.Disks.{Away, Rests, Disk, Out}
 use Rattle.leading.specs.Beginning.{GoesLiveGiven}
 use Rattle.leading.specs.Hearing.{Hears, LetsGo, WithNoted}
 use Rattle.leading.specs.Leaders.{LeaderView, BeginBehind}
@@ -26,154 +19,165 @@ use Rattle.wire.specs.declared.answers.Answer.{Answer}
 use Rattle.wire.specs.declared.requests.Request.{Request}
 use Rattle.process_world.specs.Happenings.{IsRoundOf, OnlyHears, told_of, answer_of}
 use Rattle.live_world.specs.declared.event.LiveEvent.{LiveEvent}
-use Rattle.live_world.specs.declared.event.LiveEvent.TheVariants as on
+use Rattle.live_world.specs.declared.event.LiveEvent.TheVariants.{Keeper, Primary, Client}
+use Rattle.live_world.specs.declared.event.KeeperEvent.{KeeperEvent}
+use Rattle.live_world.specs.declared.event.KeeperEvent.TheVariants as k
+use Rattle.live_world.specs.declared.event.PrimaryEvent.{PrimaryEvent}
+use Rattle.live_world.specs.declared.event.PrimaryEvent.TheVariants as p
+use Rattle.live_world.specs.declared.event.ClientEvent.{ClientEvent}
+use Rattle.live_world.specs.declared.event.ClientEvent.TheVariants as c
 use Rattle.live_world.specs.declared.hand.HandedTo.{HandedTo}
-use Rattle.live_world.specs.Sites.{AtSite, TakesAll, with_disk}
-use Rattle.live_world.specs.Views.{LiveView, IsGrantedIn, disk_at, handed_of, world_of}
+use Rattle.live_world.specs.declared.seat.Seat.TheVariants.{Runs, Ended}
+use Rattle.live_world.specs.declared.site.Site.{Site}
+use Rattle.live_world.specs.Calls.{CrashesAt, HandsRead, HasBegun, HasLogged, TakesAll}
+use Rattle.live_world.specs.Grants.{AreGivenBy}
+use Rattle.live_world.specs.Seats.{IsGrantedIn}
+use Rattle.live_world.specs.Shelves.{HandDoes}
+use Rattle.live_world.specs.Sites.{site_at}
+use Rattle.live_world.specs.Views.{LiveView}
 
 -- ---- keepers
 
--- the keeper's process began with the log, and cut that behind its frames
-abbrev pub HasBegun : ℕ → Disk → List Act → List Out → Disk → Type 0
-HasBegun keeper d acts outs e =
-    (log : List ℕ) × (size : ℕ) × (st : StationView) × (d.keeper ≡ Away) × (acts ≡ SawLog log ∷ CutTo size ∷ []) × (e.keeper ≡ Rests st) ×
-    (st.keeper ≡ keeper) × (st.seen ≡ 0)
+-- this happened at the keeper's machine
+pub record AtSite (v : LiveView) (keeper : ℕ) (Deed : Site → Site → Type 0) (w : LiveView) : Type 0 where
+  pub before : Site
+  pub there : site_at v.sites keeper ≡ Some before
+  pub after : Site
+  pub deed : Deed before after
+  pub sites : w.sites ≡ slice_set v.sites keeper (Some after)
 
--- what was fresh was added and brought to disk, and then this fence was seen
-abbrev pub HasLogged : Disk → List Act → List Out → Disk → Type 0
-HasLogged d acts outs e = (st : StationView) × (fence : ℕ) × (d.keeper ≡ Rests st) × (acts ≡ logging st.fresh fence)
+-- behind a call that left the machine so, what was read of its log was handed over
+abbrev pub ThenHands : LiveView → ℕ → (Site → Site → Type 0) → List HandedTo → Site → Site → Type 0
+ThenHands v keeper Deed handed before after =
+    (mid : Site) × Deed before mid × ((one : Option HandedTo) × HandsRead (guest_of v.image) keeper mid one × (handed ≡ option_to_list one)) ×
+    (after ≡ record mid { files = record mid.files { read = None } })
 
--- frames of a batch came to the keeper
-pub record TakesFrames (v : LiveView) (keeper batch from to : ℕ) (w : LiveView) : Type 0 where
-  pub frames : List Frame
-  pub there : slice_get v.frames batch ≡ Some frames
-  pub before : Disk
-  pub is_before : disk_at v.sites keeper ≡ Some before
-  pub after : Disk
-  pub takes : TakesAll (take (to - from) (drop from frames)) before after
-  pub rest : world_of w ≡ with_disk v keeper after []
+-- whoever hands the log over did this, and nothing was done by the keeper
+abbrev pub HandActs : KeeperEvent → Site → Site → Type 0
+HandActs (k.Hand keeper act) before after = HandDoes act before.files after.files × (after.station ≡ before.station)
+HandActs _ before after = ⊥
+
+abbrev pub KeeperHappens : LiveView → KeeperEvent → LiveView → Type 0
+KeeperHappens v (k.Begin keeper plan) w =
+    (handed : List HandedTo) × AtSite v keeper (ThenHands v keeper (HasBegun (guest_of v.image) keeper) handed) w ×
+    (w ≡ record v { sites = w.sites; handed = v.handed ++ handed })
+KeeperHappens v (k.Take keeper from to piece) w =
+    AtSite v keeper (TakesAll (take (to - from) (drop from v.frames))) w × (w ≡ record v { sites = w.sites })
+KeeperHappens v (k.Log keeper plan) w =
+    (handed : List HandedTo) × (said : Option Acknowledgement) ×
+    AtSite v keeper (ThenHands v keeper (λ before mid. HasLogged before said mid) handed) w ×
+    (w ≡ record v { sites = w.sites; said = v.said ++ option_to_list said; handed = v.handed ++ handed })
+KeeperHappens v (k.KeeperEnds keeper) w = AtSite v keeper (λ before after. after ≡ record before { station = None }) w × (w ≡ record v { sites = w.sites })
+KeeperHappens v (k.Crash keeper left) w = AtSite v keeper CrashesAt w × (w ≡ record v { sites = w.sites })
+KeeperHappens v (k.Lose keeper) w = (s : Site) × (site_at v.sites keeper ≡ Some s) × (w ≡ record v { sites = slice_set v.sites keeper None })
+KeeperHappens v (k.Hand keeper act) w =
+    (handed : List HandedTo) × AtSite v keeper (ThenHands v keeper (HandActs (k.Hand keeper act)) handed) w ×
+    (w ≡ record v { sites = w.sites; handed = v.handed ++ handed })
 
 -- ---- primaries
 
 -- the primary, whose process runs, did this, and stands now so
-pub record AtPrimary (v : LiveView) (n : ℕ) (Deed : LeaderView → LeaderView → Type 0) (w : LiveView) : Type 0 where
+pub record AtSeat (v : LiveView) (n : ℕ) (Deed : LeaderView → LeaderView → Type 0) (w : LiveView) : Type 0 where
   pub before : LeaderView
-  pub there : slice_get v.led n ≡ Some (Some (record { leader = before; runs = true }))
+  pub there : slice_get v.led n ≡ Some (Runs before)
   pub after : LeaderView
   pub deed : Deed before after
-  pub led : w.led ≡ slice_set v.led n (Some (record { leader = after; runs = true }))
-
--- the stores of what was handed over, by these numbers
-abbrev pub AreGivenBy : LiveView → List ℕ → List Given → Type 0
-AreGivenBy v [] [] = Unit {0}
-AreGivenBy v (n ∷ numbers) (g ∷ given) =
-    (h : HandedTo) × (frames : List Frame) × (slice_get v.handed n ≡ Some h) × (g.keeper ≡ h.keeper) × (g.term ≡ h.term) ×
-    Splits (handed_of h).bytes frames [] × IsJoinOf (guest_of v.image) frames g.store.now × AreGivenBy v numbers given
-AreGivenBy v [] (g ∷ given) = ⊥
-AreGivenBy v (n ∷ numbers) [] = ⊥
+  pub led : w.led ≡ slice_set v.led n (Runs after)
 
 pub record GoesLiveFrom (v : LiveView) (term : ℕ) (numbers : List ℕ) (w : LiveView) : Type 0 where
-  pub quorum : Quorum
-  pub keepers : quorum.keepers ≡ v.keepers
-  pub need : quorum.need ≡ v.need
   pub given : List Given
-  pub from : AreGivenBy v numbers given
+  pub from : AreGivenBy (guest_of v.image) v.handed numbers given
   pub leader : LeaderView
   pub not_granted : IsGrantedIn v.led term → ⊥
-  pub live : GoesLiveGiven v.image quorum term given leader.primary leader.gate
+  pub live : GoesLiveGiven v.image v.quorum term given leader.primary leader.gate
   pub queues : BeginBehind leader.primary.book.start leader.queues
   pub released : leader.released ≡ []
-  pub rest : w ≡ record v {
-    led = v.led ++ Some (record { leader = leader; runs = true }) ∷ [];
-    frames = v.frames ++ (Opening leader.primary.opening ∷ []) ∷ [];
-  }
+  pub rest : w ≡ record v { led = v.led ++ Runs leader ∷ []; frames = v.frames ++ Opening leader.primary.opening ∷ [] }
 
--- what one batch has at a number
-abbrev pub IsAt : {A : Type 0} → List (List A) → ℕ → ℕ → A → Type 0
-IsAt {A} batches batch number x = (one : List A) × (slice_get batches batch ≡ Some one) × (slice_get one number ≡ Some x)
-
-pub record HearsAsked (v : LiveView) (n batch number : ℕ) (w : LiveView) : Type 0 where
+pub record HearsAsked (v : LiveView) (n asked : ℕ) (w : LiveView) : Type 0 where
   pub request : Request
-  pub asked : IsAt v.asked batch number request
+  pub there : slice_get v.asked asked ≡ Some request
   pub what : Heard
-  pub hears : AtPrimary v n (λ old new. Hears old request new what) w
-  pub rest : w ≡ record v { led = w.led; told = v.told ++ told_of what ∷ [] }
+  pub hears : AtSeat v n (λ old new. Hears old request new what) w
+  pub rest : w ≡ record v { led = w.led; told = v.told ++ told_of what }
 
 pub record SealsLog (v : LiveView) (n : ℕ) (w : LiveView) : Type 0 where
   pub frames : List Frame
-  pub seals : AtPrimary v n (λ old new.
+  pub seals : AtSeat v n (λ old new.
       IsCut (book_log old.primary.opening.guest old.primary.opening.term old.primary.book) old.primary.opening.guest.harts old.primary.sealed frames
       new.primary.sealed × (new ≡ record old { primary = record old.primary { sealed = new.primary.sealed } })) w
-  pub rest : w ≡ record v { led = w.led; frames = v.frames ++ frames ∷ [] }
+  pub rest : w ≡ record v { led = w.led; frames = v.frames ++ frames }
 
-pub record HearsSaidAt (v : LiveView) (n number : ℕ) (w : LiveView) : Type 0 where
-  pub said : Acknowledgement
-  pub there : slice_get v.said number ≡ Some said
-  pub hears : AtPrimary v n (λ old new. WithNoted old said (λ noted. LetsGo old noted new) × OnlyHears old new) w
+pub record HearsSaidAt (v : LiveView) (n said : ℕ) (w : LiveView) : Type 0 where
+  pub acknowledgement : Acknowledgement
+  pub there : slice_get v.said said ≡ Some acknowledgement
+  pub hears : AtSeat v n (λ old new. WithNoted old acknowledgement (λ noted. LetsGo old noted new) × OnlyHears old new) w
   pub rest : w ≡ record v { led = w.led }
 
 pub record TellsAt (v : LiveView) (n number : ℕ) (w : LiveView) : Type 0 where
   pub leader : LeaderView
-  pub there : slice_get v.led n ≡ Some (Some (record { leader = leader; runs = true }))
+  pub there : slice_get v.led n ≡ Some (Runs leader)
   pub released : Released
   pub out : slice_get leader.released number ≡ Some released
-  pub rest : w ≡ record v { told = v.told ++ (answer_of leader.primary.opening.term released ∷ []) ∷ [] }
+  pub rest : w ≡ record v { told = v.told ++ answer_of leader.primary.opening.term released ∷ [] }
 
+-- its process is gone
 pub record EndsAt (v : LiveView) (n : ℕ) (w : LiveView) : Type 0 where
   pub leader : LeaderView
-  pub there : slice_get v.led n ≡ Some (Some (record { leader = leader; runs = true }))
-  pub rest : w ≡ record v { led = slice_set v.led n (Some (record { leader = leader; runs = false })) }
+  pub there : slice_get v.led n ≡ Some (Runs leader)
+  pub rest : w ≡ record v { led = slice_set v.led n (Ended leader.primary.opening.term) }
+
+abbrev pub PrimaryHappens : LiveView → PrimaryEvent → LiveView → Type 0
+PrimaryHappens v (p.GoLive term handed) w = GoesLiveFrom v term handed.items w
+PrimaryHappens v (p.Request primary asked) w = HearsAsked v primary asked w
+PrimaryHappens v (p.Round primary steps spacing) w = AtSeat v primary (IsRoundOf spacing steps) w × (w ≡ record v { led = w.led })
+PrimaryHappens v (p.Seal primary) w = SealsLog v primary w
+PrimaryHappens v (p.Hear primary said) w = HearsSaidAt v primary said w
+PrimaryHappens v (p.Tell primary released) w = TellsAt v primary released w
+PrimaryHappens v (p.End primary) w = EndsAt v primary w
 
 -- ---- clients
 
 -- the client did this
-pub record AtClient (v : LiveView) (c : ℕ) (Deed : TalkView → TalkView → Type 0) (w : LiveView) : Type 0 where
+pub record AtTalk (v : LiveView) (c : ℕ) (Deed : TalkView → TalkView → Type 0) (w : LiveView) : Type 0 where
   pub before : TalkView
   pub there : slice_get v.clients c ≡ Some before
   pub after : TalkView
   pub deed : Deed before after
   pub clients : w.clients ≡ slice_set v.clients c after
 
-pub record AsksNext (v : LiveView) (c : ℕ) (w : LiveView) : Type 0 where
-  pub batch : List Request
-  pub asks : AtClient v c (λ t u. (batch ≡ option_to_list (next_of t.asker)) ×
-      (u ≡ record t { asker = record t.asker { sent = t.asker.sent + length batch } })) w
-  pub rest : w ≡ record v { clients = w.clients; asked = v.asked ++ batch ∷ [] }
+-- its next word is asked for, where it asks for one
+abbrev pub AsksNext : List Request → TalkView → TalkView → Type 0
+AsksNext requests t u =
+    (requests ≡ option_to_list (next_of t.asker)) × (u ≡ record t { asker = record t.asker { sent = t.asker.sent + length requests } })
 
 -- an answer to what was asked and not answered yet is heard, and nothing else changes anything
 abbrev pub HearsOne : Answer → TalkView → TalkView → Type 0
 HearsOne a t u =
-    ((heard t.asker a.output ≡ IsNew) → u ≡ record t { asker = with_answer t.asker a.output }) × (((heard t.asker a.output ≡ IsNew) → ⊥) → u ≡ t)
+    ((heard t.asker a.output ≡ IsNew) × (u ≡ record t { asker = with_answer t.asker a.output })) ⊎
+    (((heard t.asker a.output ≡ IsNew) → ⊥) × (u ≡ t))
 
 -- the next answer is told, where it is there
 abbrev pub TellsNext : TalkView → TalkView → Type 0
 TellsNext t u =
     ((had t.asker t.told ≡ None) × (u ≡ t)) ⊎ ((word : ℕ) × (had t.asker t.told ≡ Some word) × (u ≡ record t { told = t.told + 1 }))
 
+abbrev pub ClientHappens : LiveView → ClientEvent → LiveView → Type 0
+ClientHappens v (c.Join words window) w =
+    (t : TalkView) × ((number : ℕ) → had t.asker number ≡ None) × (t.asker.words ≡ words.items) × (t.asker.window ≡ window) ×
+    (w ≡ record v { clients = v.clients ++ t ∷ [] })
+ClientHappens v (c.Want request) w = w ≡ record v { asked = v.asked ++ request ∷ [] }
+ClientHappens v (c.Ask client) w =
+    (requests : List Request) × AtTalk v client (AsksNext requests) w × (w ≡ record v { clients = w.clients; asked = v.asked ++ requests })
+ClientHappens v (c.AskAgain client) w =
+    (t : TalkView) × (slice_get v.clients client ≡ Some t) × (w ≡ record v { asked = v.asked ++ asked_again t.asker })
+ClientHappens v (c.Answer client told) w =
+    (a : Answer) × (slice_get v.told told ≡ Some a) × AtTalk v client (HearsOne a) w × (w ≡ record v { clients = w.clients })
+ClientHappens v (c.Print client) w = AtTalk v client TellsNext w × (w ≡ record v { clients = w.clients })
+
 -- ---- events
 
 abbrev pub Happening : LiveView → LiveEvent → LiveView → Type 0
-Happening v (on.Begin keeper) w = AtSite v keeper (HasBegun keeper) w
-Happening v (on.Take keeper batch from to piece) w = TakesFrames v keeper batch from to w
-Happening v (on.Log keeper plan) w = AtSite v keeper HasLogged w
-Happening v (on.KeeperEnds keeper) w =
-    (d : Disk) × (disk_at v.sites keeper ≡ Some d) × (world_of w ≡ with_disk v keeper (record d { keeper = Away }) [])
-Happening v (on.Crash keeper left) w = AtSite v keeper (λ d acts outs e. (acts ≡ []) × (e.keeper ≡ Away)) w
-Happening v (on.Lose keeper) w = world_of w ≡ record (world_of v) { disks = put (disk_at v.sites) keeper None }
-Happening v (on.Hand keeper act) w = AtSite v keeper (λ d acts outs e. (acts ≡ []) × (e.keeper ≡ d.keeper)) w
-Happening v (on.GoLive term handed) w = GoesLiveFrom v term handed.items w
-Happening v (on.Request primary batch number) w = HearsAsked v primary batch number w
-Happening v (on.Round primary steps spacing) w = AtPrimary v primary (IsRoundOf spacing steps) w × (w ≡ record v { led = w.led })
-Happening v (on.Seal primary) w = SealsLog v primary w
-Happening v (on.Hear primary said) w = HearsSaidAt v primary said w
-Happening v (on.Tell primary released) w = TellsAt v primary released w
-Happening v (on.End primary) w = EndsAt v primary w
-Happening v (on.Join words window) w =
-    (t : TalkView) × ((number : ℕ) → had t.asker number ≡ None) × (t.asker.words ≡ words.items) × (w ≡ record v { clients = v.clients ++ t ∷ [] })
-Happening v (on.Want request) w = w ≡ record v { asked = v.asked ++ (request ∷ []) ∷ [] }
-Happening v (on.Ask client) w = AsksNext v client w
-Happening v (on.AskAgain client) w =
-    (t : TalkView) × (slice_get v.clients client ≡ Some t) × (w ≡ record v { asked = v.asked ++ asked_again t.asker ∷ [] })
-Happening v (on.Answer client batch number) w =
-    (a : Answer) × IsAt v.told batch number a × AtClient v client (HearsOne a) w × (w ≡ record v { clients = w.clients })
-Happening v (on.Print client) w = AtClient v client TellsNext w × (w ≡ record v { clients = w.clients })
+Happening v (Keeper event) w = KeeperHappens v event w
+Happening v (Primary event) w = PrimaryHappens v event w
+Happening v (Client event) w = ClientHappens v event w

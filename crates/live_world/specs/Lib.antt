@@ -1,8 +1,11 @@
-pub mod Telling
-pub mod Hands
 pub mod Shelves
-pub mod Views
+pub mod Passages
+pub mod Hands
 pub mod Sites
-pub mod Following
+pub mod Seats
+pub mod Calls
+pub mod Grants
+pub mod Views
 pub mod Happenings
 pub mod Refusals
+pub mod machinery

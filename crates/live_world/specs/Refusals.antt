@@ -1,138 +1,158 @@
 -- Why events are refused, and what a refused one leaves.
-use Rattle.std.specs.Prelude.{◌≡◌, ◌≤◌, ◌⊎◌, ◌-◌, ℕ, true, List, [], ◌∷◌, Contains, drop, length, slice_get, take, None, Some}
-use Rattle.ft_types.specs.declared.quorum.Quorum.{Quorum}
-use Rattle.fenced_keeper.specs.declared.keeper.Given.{Given}
+use Rattle.std.specs.Prelude.{◌≡◌, ◌≤◌, ◌<◌, ◌⊎◌, ◌-◌, ◌++◌, ℕ, List, [], ◌∷◌, drop, length, slice_get, slice_set, take, Option, None, Some}
+use Rattle.std.specs.Option.{option_to_list}
+use Rattle.guest_image.specs.Image.{guest_of}
 use Rattle.fragment_codec.specs.declared.frame.Frame.{Frame}
-use Rattle.keeper_disks.specs.Disks.{Away, Rests, Saw, HasFenced, Nobody, Disk}
 use Rattle.stations.specs.Stations.{StationView}
-use Rattle.stations.specs.declared.faults.LogFault.TheVariants.{Files as FilesOfLog}
-use Rattle.stations.specs.declared.faults.FilesFault.TheVariants.{Memory as NoFilesMemory}
-use Rattle.leading.specs.Beginning.{CannotGoLive}
 use Rattle.leading.specs.Hearing.{LetsNothingGo, WithNoted}
 use Rattle.leading.specs.Leaders.{LeaderView}
-use Rattle.leading.specs.declared.handed.HandedFault.TheVariants.{Memory as NoHandedMemory}
-use Rattle.wire.specs.declared.answers.Answer.{Answer}
-use Rattle.wire.specs.declared.requests.Request.{Request}
 use Rattle.wire.specs.declared.acknowledgements.Acknowledgement.{Acknowledgement}
 use Rattle.process_world.specs.Happenings.{OnlyHears}
-use Rattle.live_world.specs.declared.event.HandAct.{HandAct}
-use Rattle.live_world.specs.declared.event.HandAct.TheVariants as hands
 use Rattle.live_world.specs.declared.event.LiveEvent.{LiveEvent}
-use Rattle.live_world.specs.declared.event.LiveEvent.TheVariants as on
+use Rattle.live_world.specs.declared.event.LiveEvent.TheVariants.{Keeper, Primary, Client}
+use Rattle.live_world.specs.declared.event.KeeperEvent.{KeeperEvent}
+use Rattle.live_world.specs.declared.event.KeeperEvent.TheVariants as k
+use Rattle.live_world.specs.declared.event.PrimaryEvent.{PrimaryEvent}
+use Rattle.live_world.specs.declared.event.PrimaryEvent.TheVariants as p
+use Rattle.live_world.specs.declared.event.ClientEvent.{ClientEvent}
+use Rattle.live_world.specs.declared.event.ClientEvent.TheVariants as c
 use Rattle.live_world.specs.declared.fault.EventFault.{EventFault}
 use Rattle.live_world.specs.declared.fault.EventFault.TheVariants as fault
-use Rattle.live_world.specs.Happenings.{AtPrimary, AreGivenBy, IsAt}
-use Rattle.live_world.specs.Sites.{AtSite, TakesAll, with_disk}
-use Rattle.live_world.specs.Views.{LiveView, IsGrantedIn, disk_at, world_of}
+use Rattle.live_world.specs.declared.hand.HandedTo.{HandedTo}
+use Rattle.live_world.specs.declared.seat.Seat.TheVariants.{Runs, Ended}
+use Rattle.live_world.specs.declared.site.Site.{Site}
+use Rattle.live_world.specs.Calls.{BeginsNot, HandsRead, HasBegun, HasLogged, IsNotHandedOver, LogsNot, TakesNot}
+use Rattle.live_world.specs.Grants.{IsNotLive}
+use Rattle.live_world.specs.Happenings.{AtSeat, AtSite, EndsAt, HandActs}
+use Rattle.live_world.specs.Seats.{IsGrantedIn, RunsNot}
+use Rattle.live_world.specs.Shelves.{HandDoes, IsNoTurn}
+use Rattle.live_world.specs.Sites.{site_at}
+use Rattle.live_world.specs.Views.{LiveView}
 
--- the keepers that the event names
-abbrev pub keepers_in : LiveEvent → List ℕ
-keepers_in (on.Begin keeper) = keeper ∷ []
-keepers_in (on.Take keeper batch from to piece) = keeper ∷ []
-keepers_in (on.Log keeper plan) = keeper ∷ []
-keepers_in (on.KeeperEnds keeper) = keeper ∷ []
-keepers_in (on.Crash keeper left) = keeper ∷ []
-keepers_in (on.Lose keeper) = keeper ∷ []
-keepers_in (on.Hand keeper act) = keeper ∷ []
-keepers_in _ = []
+-- ---- keepers
 
--- the primaries that it names
-abbrev pub primaries_in : LiveEvent → List ℕ
-primaries_in (on.Request primary batch number) = primary ∷ []
-primaries_in (on.Round primary steps spacing) = primary ∷ []
-primaries_in (on.Seal primary) = primary ∷ []
-primaries_in (on.Hear primary said) = primary ∷ []
-primaries_in (on.Tell primary released) = primary ∷ []
-primaries_in (on.End primary) = primary ∷ []
-primaries_in _ = []
+abbrev pub keeper_of : KeeperEvent → ℕ
+keeper_of (k.Begin keeper plan) = keeper
+keeper_of (k.Take keeper from to piece) = keeper
+keeper_of (k.Log keeper plan) = keeper
+keeper_of (k.KeeperEnds keeper) = keeper
+keeper_of (k.Crash keeper left) = keeper
+keeper_of (k.Lose keeper) = keeper
+keeper_of (k.Hand keeper act) = keeper
 
--- the clients that it names
-abbrev pub clients_in : LiveEvent → List ℕ
-clients_in (on.Ask client) = client ∷ []
-clients_in (on.AskAgain client) = client ∷ []
-clients_in (on.Answer client batch number) = client ∷ []
-clients_in (on.Print client) = client ∷ []
-clients_in _ = []
-
--- no primary of the number runs
-abbrev pub RunsNot : LiveView → ℕ → Type 0
-RunsNot v n = (l : LeaderView) → slice_get v.led n ≡ Some (Some (record { leader = l; runs = true })) → ⊥
+-- the machine of the keeper is there, and its process does not run
+abbrev pub RestsAt : LiveView → ℕ → Type 0
+RestsAt v keeper = (s : Site) × (site_at v.sites keeper ≡ Some s) × (s.station ≡ None)
 
 abbrev pub RunsAt : LiveView → ℕ → Type 0
-RunsAt v keeper = (d : Disk) × (st : StationView) × (disk_at v.sites keeper ≡ Some d) × (d.keeper ≡ Rests st)
+RunsAt v keeper = (s : Site) × (st : StationView) × (site_at v.sites keeper ≡ Some s) × (s.station ≡ Some st)
 
-abbrev pub RestsAt : LiveView → ℕ → Type 0
-RestsAt v keeper = (d : Disk) × (disk_at v.sites keeper ≡ Some d) × (d.keeper ≡ Away)
+-- memory was refused, or what a keeper's files have is none of what it asks for
+abbrev pub KeeperRefuses : LiveView → KeeperEvent → EventFault → Type 0
+KeeperRefuses v event fault.NoKeeper = site_at v.sites (keeper_of event) ≡ None
+KeeperRefuses v (k.Begin keeper plan) fault.Runs = RunsAt v keeper
+KeeperRefuses v (k.Take keeper from to piece) fault.Rests = RestsAt v keeper
+KeeperRefuses v (k.Log keeper plan) fault.Rests = RestsAt v keeper
+KeeperRefuses v (k.Take keeper from to piece) fault.NoFrame = from ≤ to → to ≤ length v.frames → ⊥
+KeeperRefuses v (k.Hand keeper act) fault.NoTurn = (s : Site) × (site_at v.sites keeper ≡ Some s) × IsNoTurn s.files act fault.NoTurn
+KeeperRefuses v (k.Hand keeper act) (fault.Fenced last) = (s : Site) × (site_at v.sites keeper ≡ Some s) × IsNoTurn s.files act (fault.Fenced last)
+KeeperRefuses v (k.Begin keeper plan) (fault.Log why) = Unit {0}
+KeeperRefuses v (k.Log keeper plan) (fault.Log why) = Unit {0}
+KeeperRefuses v (k.Hand keeper act) (fault.Log why) = Unit {0}
+KeeperRefuses v (k.Log keeper plan) (fault.Files why) = RunsAt v keeper
+KeeperRefuses v event fault.Memory = Unit {0}
+KeeperRefuses v event other = ⊥
 
--- the act is not the next one of whoever hands the log over
-abbrev pub HasNoTurn : Disk → HandAct → Type 0
-HasNoTurn d hands.Looks = d.hand ≡ Nobody → ⊥
-HasNoTurn d (hands.Fences term) = (last : ℕ) → d.hand ≡ Saw last → ⊥
-HasNoTurn d hands.Reads = (term : ℕ) → d.hand ≡ HasFenced term → ⊥
-HasNoTurn d hands.Ends = ⊥
+-- behind a call that left the machine so, what was read of its log was handed over, or is no log that is
+abbrev pub ThenMayHand : LiveView → ℕ → (Site → Site → Type 0) → List HandedTo → Site → Site → Type 0
+ThenMayHand v keeper Deed handed before after =
+    (mid : Site) × Deed before mid ×
+    (((one : Option HandedTo) × HandsRead (guest_of v.image) keeper mid one × (handed ≡ option_to_list one)) ⊎
+    ((handed ≡ []) × (f : EventFault) × IsNotHandedOver (guest_of v.image) mid f)) ×
+    (after ≡ record mid { files = record mid.files { read = None } })
 
--- why an event is refused
-abbrev pub Refuses : LiveView → LiveEvent → EventFault → Type 0
-Refuses v event fault.Over = v.over ≡ true
-Refuses v event fault.NoKeeper = (k : ℕ) × (keepers_in event ≡ k ∷ []) × (disk_at v.sites k ≡ None)
-Refuses v (on.Begin keeper) fault.Runs = RunsAt v keeper
-Refuses v (on.Take keeper batch from to piece) fault.Rests = RestsAt v keeper
-Refuses v (on.Log keeper plan) fault.Rests = RestsAt v keeper
-Refuses v (on.Hand keeper act) fault.NoTurn = (d : Disk) × (disk_at v.sites keeper ≡ Some d) × HasNoTurn d act
-Refuses v (on.Hand keeper (hands.Fences term)) (fault.Fenced last) =
-    (d : Disk) × (disk_at v.sites keeper ≡ Some d) × (d.hand ≡ Saw last) × (term ≤ last)
-Refuses v (on.Take keeper batch from to piece) fault.NoFrame =
-    (frames : List Frame) → slice_get v.frames batch ≡ Some frames → from ≤ to → to ≤ length frames → ⊥
-Refuses v (on.GoLive term handed) fault.NoneHanded = (n : ℕ) × Contains handed.items n × (length v.handed ≤ n)
-Refuses v (on.GoLive term handed) fault.Granted = IsGrantedIn v.led term
-Refuses v (on.GoLive term handed) (fault.Lead why) =
-    (quorum : Quorum) × (given : List Given) × (quorum.keepers ≡ v.keepers) × (quorum.need ≡ v.need) × AreGivenBy v handed.items given ×
-    CannotGoLive v.image quorum term given why
--- whatever was handed over is whole: memory alone is refused
-Refuses v (on.GoLive term handed) (fault.Handed why) = why ≡ NoHandedMemory
-Refuses v event fault.NoPrimary = (n : ℕ) × (primaries_in event ≡ n ∷ []) × RunsNot v n
-Refuses v (on.Request primary batch number) fault.NoneAsked = (r : Request) → IsAt v.asked batch number r → ⊥
-Refuses v (on.Hear primary said) fault.NoneSaid = length v.said ≤ said
-Refuses v (on.Tell primary number) fault.NoneOut =
-    (l : LeaderView) × (slice_get v.led primary ≡ Some (Some (record { leader = l; runs = true }))) × (length l.released ≤ number)
-Refuses v event fault.NoClient = (c : ℕ) × (clients_in event ≡ c ∷ []) × (length v.clients ≤ c)
-Refuses v (on.Answer client batch number) fault.NoneTold = (a : Answer) → IsAt v.told batch number a → ⊥
--- each log is a keeper's: memory alone is refused
-Refuses v event (fault.Log why) = why ≡ FilesOfLog NoFilesMemory
-Refuses v (on.Log keeper plan) (fault.Files why) = RunsAt v keeper
-Refuses v event fault.Memory = Unit {0}
-Refuses _ _ _ = ⊥
+-- What a refused event leaves: all as it was, but where a keeper's call was done in part, or what it read is not handed over.
+abbrev pub KeeperLeaves : LiveView → KeeperEvent → EventFault → LiveView → Type 0
+KeeperLeaves v (k.Begin keeper plan) (fault.Log why) w =
+    (handed : List HandedTo) × AtSite v keeper (ThenMayHand v keeper (λ s t. HasBegun (guest_of v.image) keeper s t ⊎
+    ((f : EventFault) × BeginsNot (guest_of v.image) s f t)) handed) w × (w ≡ record v { sites = w.sites; handed = v.handed ++ handed })
+KeeperLeaves v (k.Take keeper from to piece) fault.Memory w =
+    AtSite v keeper (λ s t. TakesNot (take (to - from) (drop from v.frames)) s fault.Memory t) w × (w ≡ record v { sites = w.sites })
+KeeperLeaves v (k.Log keeper plan) (fault.Log why) w =
+    (handed : List HandedTo) × (said : Option Acknowledgement) ×
+    AtSite v keeper (ThenMayHand v keeper (λ s t. HasLogged s said t ⊎ ((said ≡ None) × (f : EventFault) × LogsNot s f t)) handed) w ×
+    (w ≡ record v { sites = w.sites; said = v.said ++ option_to_list said; handed = v.handed ++ handed })
+KeeperLeaves v (k.Log keeper plan) (fault.Files why) w =
+    (handed : List HandedTo) × AtSite v keeper (ThenMayHand v keeper (λ s t. LogsNot s (fault.Files why) t) handed) w ×
+    (w ≡ record v { sites = w.sites; handed = v.handed ++ handed })
+KeeperLeaves v (k.Hand keeper act) (fault.Log why) w =
+    AtSite v keeper (ThenMayHand v keeper (HandActs (k.Hand keeper act)) []) w × (w ≡ record v { sites = w.sites })
+KeeperLeaves v event f w = w ≡ v
 
--- frames of a batch came to the keeper up to one
-pub record TakesSome (v : LiveView) (keeper batch from to : ℕ) (w : LiveView) : Type 0 where
-  pub frames : List Frame
-  pub there : slice_get v.frames batch ≡ Some frames
-  pub many : ℕ
-  pub before : Disk
-  pub is_before : disk_at v.sites keeper ≡ Some before
-  pub after : Disk
-  pub takes : TakesAll (take many (take (to - from) (drop from frames))) before after
-  pub rest : world_of w ≡ with_disk v keeper after []
+-- ---- primaries
 
--- memory was refused to this event
-abbrev pub IsLeftByMemory : LiveView → LiveEvent → LiveView → Type 0
-IsLeftByMemory v (on.Take keeper batch from to piece) w = TakesSome v keeper batch from to w
--- its log, what it says and what was handed over of it may be another; its process may be gone
-IsLeftByMemory v (on.Log keeper plan) w = AtSite v keeper (λ d acts outs e. Unit {0}) w
-IsLeftByMemory v (on.Hand keeper act) w = AtSite v keeper (λ d acts outs e. (acts ≡ []) × (e.keeper ≡ d.keeper)) w
--- the primary is lost
-IsLeftByMemory v (on.Round primary steps spacing) w = w.over ≡ true
+-- the primaries that it names
+abbrev pub primary_of : PrimaryEvent → Option ℕ
+primary_of (p.GoLive term handed) = None
+primary_of (p.Request primary asked) = Some primary
+primary_of (p.Round primary steps spacing) = Some primary
+primary_of (p.Seal primary) = Some primary
+primary_of (p.Hear primary said) = Some primary
+primary_of (p.Tell primary released) = Some primary
+primary_of (p.End primary) = Some primary
+
+abbrev pub PrimaryRefuses : LiveView → PrimaryEvent → EventFault → Type 0
+PrimaryRefuses v (p.GoLive term handed) fault.Granted = IsGrantedIn v.led term
+PrimaryRefuses v (p.GoLive term handed) f = IsNotLive v.image v.quorum term v.handed handed.items f
+PrimaryRefuses v event fault.NoPrimary = (n : ℕ) × (primary_of event ≡ Some n) × RunsNot v.led n
+PrimaryRefuses v (p.Request primary asked) fault.NoneAsked = length v.asked ≤ asked
+PrimaryRefuses v (p.Hear primary said) fault.NoneSaid = length v.said ≤ said
+PrimaryRefuses v (p.Tell primary number) fault.NoneOut =
+    (l : LeaderView) × (slice_get v.led primary ≡ Some (Runs l)) × (length l.released ≤ number)
+PrimaryRefuses v event fault.Memory = Unit {0}
+PrimaryRefuses v event other = ⊥
+
+-- What a refused event leaves: all as it was, but where memory was refused within a call.
+abbrev pub PrimaryLeaves : LiveView → PrimaryEvent → EventFault → LiveView → Type 0
+-- the primary is gone
+PrimaryLeaves v (p.Round primary steps spacing) fault.Memory w = EndsAt v primary w
+-- what was cut is lost
+PrimaryLeaves v (p.Seal primary) fault.Memory w =
+    AtSeat v primary (λ old new. new ≡ record old { primary = record old.primary { sealed = new.primary.sealed } }) w × (w ≡ record v { led = w.led })
 -- the acknowledgement may be noted, and nothing goes out
-IsLeftByMemory v (on.Hear primary said) w =
-    (w ≡ v) ⊎ ((a : Acknowledgement) × (slice_get v.said said ≡ Some a) ×
-    AtPrimary v primary (λ old new. WithNoted old a (λ noted. LetsNothingGo old noted new) × OnlyHears old new) w × (w ≡ record v { led = w.led }))
-IsLeftByMemory v event w = w ≡ v
+PrimaryLeaves v (p.Hear primary said) fault.Memory w =
+    (a : Acknowledgement) × (slice_get v.said said ≡ Some a) ×
+    AtSeat v primary (λ old new. WithNoted old a (λ noted. LetsNothingGo old noted new) × OnlyHears old new) w × (w ≡ record v { led = w.led })
+PrimaryLeaves v event f w = w ≡ v
 
--- what a refused event leaves: all as it was, but that a keeper's files failed or memory was refused
+-- ---- clients
+
+-- the clients that it names
+abbrev pub client_of : ClientEvent → Option ℕ
+client_of (c.Join words window) = None
+client_of (c.Want request) = None
+client_of (c.Ask client) = Some client
+client_of (c.AskAgain client) = Some client
+client_of (c.Answer client told) = Some client
+client_of (c.Print client) = Some client
+
+abbrev pub ClientRefuses : LiveView → ClientEvent → EventFault → Type 0
+ClientRefuses v event fault.NoClient = (n : ℕ) × (client_of event ≡ Some n) × (length v.clients ≤ n)
+ClientRefuses v (c.Answer client told) fault.NoneTold = length v.told ≤ told
+ClientRefuses v event fault.Memory = Unit {0}
+ClientRefuses v event other = ⊥
+
+abbrev pub ClientLeaves : LiveView → ClientEvent → EventFault → LiveView → Type 0
+ClientLeaves v event f w = w ≡ v
+
+-- ---- events
+
+abbrev pub Refuses : LiveView → LiveEvent → EventFault → Type 0
+Refuses v (Keeper event) f = KeeperRefuses v event f
+Refuses v (Primary event) f = PrimaryRefuses v event f
+Refuses v (Client event) f = ClientRefuses v event f
+
 abbrev pub IsLeft : LiveView → LiveEvent → EventFault → LiveView → Type 0
-IsLeft v (on.Log keeper plan) (fault.Files why) w = AtSite v keeper (λ d acts outs e. e.keeper ≡ Away) w
-IsLeft v (on.Log keeper plan) (fault.Log why) w = AtSite v keeper (λ d acts outs e. Unit {0}) w
-IsLeft v (on.Begin keeper) (fault.Log why) w = world_of w ≡ world_of v
-IsLeft v (on.Hand keeper act) (fault.Log why) w = AtSite v keeper (λ d acts outs e. (acts ≡ []) × (e.keeper ≡ d.keeper)) w
-IsLeft v event fault.Memory w = IsLeftByMemory v event w
-IsLeft v event f w = w ≡ v
+IsLeft v (Keeper event) f w = KeeperLeaves v event f w
+IsLeft v (Primary event) f w = PrimaryLeaves v event f w
+IsLeft v (Client event) f w = ClientLeaves v event f w

@@ -1,81 +1,76 @@
--- The processes that are led, as a world of processes.
-use Rattle.std.specs.Prelude.{◌≡◌, ◌==◌, ℕ, Bool, List, [], ◌∷◌, map, reverse, slice_get, Option, None, Some, option_map, zero, suc, if◌then◌else◌}
-use Rattle.std.specs.List.{flat_map}
-use Rattle.guest_image.specs.Image.{ImageContents}
+-- The processes that are led, and when a world of processes is theirs.
+use Rattle.std.specs.Prelude.{◌≡◌, ◌<◌, ◌↔◌, ℕ, List, [], replicate, Contains, Option, Some}
+use Rattle.ft_types.specs.declared.names.TheConstants.{KEEPER_LIMIT}
+use Rattle.ft_types.specs.declared.quorum.Quorum.{Quorum}
+use Rattle.guest_image.specs.Image.{ImageContents, guest_of}
 use Rattle.fragment_codec.specs.declared.frame.Frame.{Frame}
-use Rattle.stations.specs.Stations.{StationView}
-use Rattle.keeper_disks.specs.Disks.{Phase, Away, Rests, Disk}
+use Rattle.stations.specs.Handing.{IsHandedTo}
 use Rattle.asking.specs.Talks.{TalkView}
 use Rattle.wire.specs.declared.acknowledgements.Acknowledgement.{Acknowledgement}
 use Rattle.wire.specs.declared.answers.Answer.{Answer}
 use Rattle.wire.specs.declared.requests.Request.{Request}
-use Rattle.process_world.specs.Worlds.{Handed, Led, ProcessWorld, led_as}
-use Rattle.process_world.specs.Happenings.{ended}
+use Rattle.process_world.specs.Worlds.{Handed, ProcessWorld}
+use Rattle.process_world.specs.Happenings.{Happens, Comes}
 use Rattle.live_world.specs.declared.hand.HandedTo.{HandedTo}
 use Rattle.live_world.specs.declared.seat.Seat.{Seat}
 use Rattle.live_world.specs.declared.site.Site.{Site}
+use Rattle.live_world.specs.Seats.{AreSeatsOf}
+use Rattle.live_world.specs.Sites.{IsAtRest, disk_at, empty_site, site_at}
 
 pub record LiveView : Type 0 where
   pub image : ImageContents
-  pub keepers : ℕ
-  pub need : ℕ
-  pub sites : List (Option Site)
-  pub frames : List (List Frame)  -- what one call sent is one batch, here and below
+  pub quorum : Quorum
+  pub sites : List (Option Site)  -- by keeper; none once it is lost
+  pub frames : List Frame  -- what was sent, said, handed over, told and asked for, and is not lost
   pub said : List Acknowledgement
   pub handed : List HandedTo
-  pub led : List (Option Seat)  -- none but where the world is over
-  pub told : List (List Answer)
-  pub asked : List (List Request)
+  pub led : List Seat  -- by the order in which their terms were granted
+  pub told : List Answer
+  pub asked : List Request
   pub clients : List TalkView
-  pub over : Bool  -- a primary was lost in the midst of its round
 
-abbrev pub phase_of : Option StationView → Phase
-phase_of None = Away
-phase_of (Some st) = Rests st
-
-abbrev pub disk_of : Site → Disk
-disk_of s = record { files = s.files.files; keeper = phase_of s.station; hand = s.files.hand }
-
-abbrev pub site_at : List (Option Site) → ℕ → Option Site
-site_at [] k = None
-site_at (s ∷ sites) zero = s
-site_at (s ∷ sites) (suc k) = site_at sites k
-
-abbrev pub disk_at : List (Option Site) → ℕ → Option Disk
-disk_at sites k = option_map disk_of (site_at sites k)
-
--- what stands behind the first line
-abbrev pub behind_line : List ℕ → List ℕ
-behind_line [] = []
-behind_line (b ∷ bytes) = if b == 10 then bytes else behind_line bytes
-
-abbrev pub handed_of : HandedTo → Handed
-handed_of h = record { keeper = h.keeper; term = h.term; bytes = behind_line h.bytes.items }
-
-abbrev pub led_of : Seat → Led
-led_of s = if s.runs then led_as s.leader else ended s.leader
-
-abbrev pub all_led : List (Option Seat) → List Led
-all_led [] = []
-all_led (None ∷ seats) = all_led seats
-all_led (Some s ∷ seats) = led_of s ∷ all_led seats
-
--- what was told, said, asked for or handed over last stands first there
-abbrev pub world_of : LiveView → ProcessWorld
-world_of v = record {
-  image = v.image;
-  keepers = v.keepers;
-  need = v.need;
-  disks = disk_at v.sites;
-  frames = flat_map (λ batch. batch) v.frames;
-  said = reverse v.said;
-  handed = map handed_of (reverse v.handed);
-  led = all_led v.led;
-  told = flat_map (λ batch. batch) (reverse v.told);
-  clients = v.clients;
-  asked = flat_map (λ batch. batch) (reverse v.asked);
+abbrev pub first_world : ImageContents → Quorum → LiveView
+first_world image quorum = record {
+  image = image;
+  quorum = quorum;
+  sites = replicate quorum.keepers (Some empty_site);
+  frames = [];
+  said = [];
+  handed = [];
+  led = [];
+  told = [];
+  asked = [];
+  clients = [];
 }
 
--- the term is that of a seat
-abbrev pub IsGrantedIn : List (Option Seat) → ℕ → Type 0
-IsGrantedIn led term = (n : ℕ) × (s : Seat) × (slice_get led n ≡ Some (Some s)) × (s.leader.primary.opening.term ≡ term)
+-- the log was handed over there, by these bytes
+pub record IsHandedIn (w : ProcessWorld) (h : HandedTo) : Type 0 where
+  pub bytes : List ℕ
+  pub there : Contains w.handed (record { keeper = h.keeper; term = h.term; bytes = bytes })
+  pub line : IsHandedTo (guest_of w.image) h.keeper h.term bytes h.bytes.items
+  pub named : h.keeper < KEEPER_LIMIT
+
+-- It is a world of these processes, each at the same point, between two calls. Frames and logs may have been sent that are lost.
+pub record IsWorldOf (v : LiveView) (w : ProcessWorld) : Type 0 where
+  pub image : w.image ≡ v.image
+  pub keepers : w.keepers ≡ v.quorum.keepers
+  pub need : w.need ≡ v.quorum.need
+  pub disks : (k : ℕ) → w.disks k ≡ disk_at v.sites k
+  pub at_rest : (k : ℕ) (s : Site) → site_at v.sites k ≡ Some s → IsAtRest s
+  pub frames : (f : Frame) → Contains v.frames f → Contains w.frames f
+  pub said : (a : Acknowledgement) → Contains v.said a ↔ Contains w.said a
+  pub handed : (h : HandedTo) → Contains v.handed h → IsHandedIn w h
+  pub led : AreSeatsOf v.led w.led
+  pub told : (a : Answer) → Contains v.told a ↔ Contains w.told a
+  pub clients : w.clients ≡ v.clients
+  pub asked : (r : Request) → Contains v.asked r ↔ Contains w.asked r
+
+-- some of what may happen leads from one world of processes to the other
+pub data Follows (w : ProcessWorld) : ProcessWorld → Type 0 where
+  Same : Follows w w
+  Then : {v u : ProcessWorld} → Follows w v → Happens v u → Follows w u
+
+-- Whatever world of processes it was, what may happen leads from it to one of what it is now.
+abbrev pub GoesTo : LiveView → LiveView → Type 0
+GoesTo v u =
+    (w : ProcessWorld) → Comes v.image v.quorum.keepers v.quorum.need w → IsWorldOf v w → (x : ProcessWorld) × Follows w x × IsWorldOf u x

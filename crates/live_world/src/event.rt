@@ -37,16 +37,17 @@ pub struct Planned {
     pub what: Meanwhile,
 }
 
-/// What happens next. What was sent, said, handed over, asked for or told is named by its number, from 0, and stays: it may come at any time, again, or
-/// never. What one call sends, asks for or tells is one batch.
+/// What happens next at a keeper's machine.
 #[derive(Drop)]
-pub enum LiveEvent {
-    /// A keeper begins, or comes back, over its log.
-    Begin(Keeper),
-    /// The frames from the one number to below the other of a batch come to the keeper, in pieces of so many bytes.
+pub enum KeeperEvent {
+    /// A keeper begins, or comes back, over its log; between its acts this happens.
+    Begin {
+        keeper: Keeper,
+        plan: Vec<Planned>,
+    },
+    /// The frames from the one number to below the other come to the keeper, in pieces of so many bytes.
     Take {
         keeper: Keeper,
-        batch: usize,
         from: usize,
         to: usize,
         piece: usize,
@@ -70,6 +71,11 @@ pub enum LiveEvent {
         keeper: Keeper,
         act: HandAct,
     },
+}
+
+/// What happens next to primaries. What was asked for, said, handed over, or went out is named by its number, from 0.
+#[derive(Drop)]
+pub enum PrimaryEvent {
     /// A primary goes live in a term from what was handed over.
     GoLive {
         term: Term,
@@ -78,8 +84,7 @@ pub enum LiveEvent {
     /// What was asked for comes to a primary.
     Request {
         primary: usize,
-        batch: usize,
-        number: usize,
+        asked: usize,
     },
     /// A primary's round.
     Round {
@@ -101,6 +106,11 @@ pub enum LiveEvent {
     },
     /// A primary's process ends.
     End(usize),
+}
+
+/// What happens next to clients.
+#[derive(Drop)]
+pub enum ClientEvent {
     /// A client comes, with words for hart 0, of which so many may be open.
     Join {
         words: Vec<u32>,
@@ -115,9 +125,16 @@ pub enum LiveEvent {
     /// What was told comes to a client.
     Answer {
         client: usize,
-        batch: usize,
-        number: usize,
+        told: usize,
     },
     /// A client tells its next answer.
     Print(usize),
+}
+
+/// What happens next. What was sent, said, handed over, asked for or told stays: it may come at any time, again, or never.
+#[derive(Drop)]
+pub enum LiveEvent {
+    Keeper(KeeperEvent),
+    Primary(PrimaryEvent),
+    Client(ClientEvent),
 }

@@ -8,8 +8,6 @@ use stations::{FilesFault, LogFault};
 /// Why an event was refused.
 #[derive(Clone, Copy, PartialEq, Eq)]
 pub enum EventFault {
-    /// The memory of a primary in the midst of its round was refused before: of this world nothing is known any more.
-    Over,
     /// There is no such keeper, or it is lost.
     NoKeeper,
     /// The keeper's process runs already.

@@ -1,14 +1,25 @@
-//! Whoever hands a log over: its two calls over what it saw and did, act by act.
+//! Whoever hands a log over: its two calls over what it saw, act by act.
 
 ghost use Rattle.std.specs.Prelude.{◌≡◌, ◌<◌, IfOk, IfErr, OnOk};
-ghost use Rattle.live_world.specs.Telling.{AreActs, acts_in};
-ghost use Rattle.live_world.specs.Hands.{HasHanded, IsNotFencedOff};
+ghost use Rattle.live_world.specs.Hands.{HasHanded, IsNotFencedOff, IsNotRead};
+ghost use Rattle.live_world.specs.Shelves.{read_view};
 
-use crate::told::ToldAct;
 use ft_types::{Guest, Keeper, Memory, Term};
 use stations::{FenceFault, FencedLog, FilesFault, HandedOver, KeeperFiles, LogFault, fence_off};
 use std::alloc::Global;
 use std::result::Result;
+
+/// What whoever hands a log over has read of it.
+#[derive(Drop)]
+pub struct LogRead {
+    /// The last fence that it saw before it put its own.
+    pub last: Term,
+    /// The term of the fence that it put.
+    pub term: Term,
+    /// The bytes that the log had behind that.
+    pub log: Vec<u8>,
+    ghost above: { last < term },
+}
 
 /// Where whoever hands a log over stands.
 #[derive(Drop)]
@@ -19,8 +30,8 @@ pub enum Stage {
     Saw(Term),
     /// It saw the one fence, and put the other.
     HasFenced(Term, Term),
-    /// Behind those it read the log, which had these bytes.
-    HasRead(Term, Term, Vec<u8>),
+    /// Behind those it read the log.
+    HasRead(LogRead),
 }
 
 /// The files as whoever hands a log over saw them: the last fence, and the log where it was read.
@@ -28,9 +39,6 @@ pub enum Stage {
 pub(crate) struct SeenFiles {
     last: Term,
     log: Vec<u8>,
-    acts: Vec<ToldAct>,
-    /// Whether memory was refused to what is to be told of it.
-    lacked: bool,
 }
 
 /// The bytes once more.
@@ -40,75 +48,36 @@ pub(crate) fn copy_of(bytes: &Vec<u8>) -> Result<Vec<u8>, Memory>
     Ok(bytes.as_slice().to_vec(*bytes.allocator())?)
 }
 
-impl SeenFiles {
-    /// The files with this last fence and this log, with which nothing was done.
-    pub(crate) fn new(alloc: Global, last: Term, log: Vec<u8>) -> SeenFiles {
-        SeenFiles {
-            last,
-            log,
-            acts: Vec::new(alloc),
-            lacked: false,
+impl KeeperFiles for SeenFiles {
+    ghost use Rattle.live_world.specs.machinery.Seen.{TellsSeen};
+
+    ghost acts = { λ files done. TellsSeen files.last files.log.items done };
+
+    fn read_log(&mut self, _alloc: Global) -> Result<Vec<u8>, FilesFault> {
+        match copy_of(&self.log) {
+            Ok(read) => Ok(read),
+            Err(Memory) => Err(FilesFault::Memory),
         }
     }
 
-    /// There is no memory to tell what is asked for.
-    fn lack(&mut self) -> FilesFault {
-        self.lacked = true;
-        FilesFault::Memory
-    }
-
-    /// Tells an act, where that can be told, and nothing was left out before.
-    fn tell(&mut self, act: ToldAct) -> Result<(), FilesFault> {
-        if self.lacked || self.acts.reserve(1).is_err() {
-            return Err(self.lack());
-        }
-        self.acts.push_reserved(act);
+    fn cut(&mut self, _size: usize) -> Result<(), FilesFault> {
         Ok(())
     }
 
-    /// The log twice: one to be told, and one to be answered.
-    fn twice(&self) -> Result<(Vec<u8>, Vec<u8>), Memory>
-        ensures { IfOk result (λ r. (r.0.items ≡ self.now.log.items) × (r.1.items ≡ self.now.log.items)) }
-    {
-        let one = copy_of(&self.log)?;
-        let other = copy_of(&self.log)?;
-        Ok((one, other))
-    }
-}
-
-impl KeeperFiles for SeenFiles {
-    ghost acts = { λ files done. AreActs (acts_in files.acts.items) files.lacked done };
-
-    fn read_log(&mut self, _alloc: Global) -> Result<Vec<u8>, FilesFault> {
-        let Ok((told, answered)) = self.twice() else {
-            return Err(self.lack());
-        };
-        self.tell(ToldAct::SawLog(told))?;
-        Ok(answered)
-    }
-
-    fn cut(&mut self, size: usize) -> Result<(), FilesFault> {
-        self.tell(ToldAct::CutTo(size))
-    }
-
-    fn add(&mut self, bytes: &[u8]) -> Result<(), FilesFault> {
-        let Ok(told) = bytes.to_vec(*self.log.allocator()) else {
-            return Err(self.lack());
-        };
-        self.tell(ToldAct::Added(told))
+    fn add(&mut self, _bytes: &[u8]) -> Result<(), FilesFault> {
+        Ok(())
     }
 
     fn sync(&mut self) -> Result<(), FilesFault> {
-        self.tell(ToldAct::Synced)
+        Ok(())
     }
 
     fn last_fence(&mut self, _alloc: Global) -> Result<Term, FilesFault> {
-        self.tell(ToldAct::SawFence(self.last))?;
         Ok(self.last)
     }
 
-    fn add_fence(&mut self, term: Term) -> Result<(), FilesFault> {
-        self.tell(ToldAct::Fenced(term))
+    fn add_fence(&mut self, _term: Term) -> Result<(), FilesFault> {
+        Ok(())
     }
 }
 
@@ -119,10 +88,12 @@ pub(crate) fn fenced(
     term: Term,
     log: Vec<u8>,
 ) -> Result<FencedLog<SeenFiles>, FenceFault>
+    ensures term { IfOk result (λ fenced. fenced.term ≡ term) }
+    ensures log { IfOk result (λ fenced. fenced.files.log.items ≡ log.items) }
     ensures above { OnOk result (last < term) }
     ensures refused { IfErr result (λ f. IsNotFencedOff last term f) }
 {
-    match fence_off(alloc, SeenFiles::new(alloc, last, log), term) {
+    match fence_off(alloc, SeenFiles { last, log }, term) {
         Ok(fenced) => Ok(fenced),
         Err(refused) => Err(refused.fault),
     }
@@ -139,27 +110,20 @@ pub struct HandedTo {
     pub bytes: Vec<u8>,
 }
 
-/// Why nothing is handed over.
-pub(crate) enum HandFault {
-    /// The log is not fenced off.
-    Fence(FenceFault),
-    /// The log is not read.
-    Log(LogFault),
-}
-
-/// What is handed over of a log by whoever saw the one fence, put the other, and read these bytes.
+/// What is handed over of a log that was read behind its fence.
 pub(crate) fn hand_over(
     alloc: Global,
     guest: &Guest,
     keeper: Keeper,
-    read: (Term, Term, Vec<u8>),
-) -> Result<HandedTo, HandFault>
-    ensures { IfOk result (λ handed. HasHanded guest.now keeper read.1 read.2.items handed) }
+    read: LogRead,
+) -> Result<HandedTo, LogFault>
+    ensures handed { IfOk result (λ handed. HasHanded guest.now keeper (read_view read) handed) }
+    ensures refused { IfErr result (λ f. IsNotRead guest.now (read_view read) f) }
 {
-    let (last, term, log) = read;
+    let LogRead { last, term, log } = read;
     let fenced = match fenced(alloc, last, term, log) {
         Ok(fenced) => fenced,
-        Err(fault) => return Err(HandFault::Fence(fault)),
+        Err(_) => return Err(LogFault::Files(FilesFault::Memory)),
     };
     match fenced.hand_over(alloc, guest, keeper) {
         Ok(HandedOver { bytes, files: _ }) => Ok(HandedTo {
@@ -167,6 +131,6 @@ pub(crate) fn hand_over(
             term,
             bytes,
         }),
-        Err(refused) => Err(HandFault::Log(refused.fault)),
+        Err(refused) => Err(refused.fault),
     }
 }

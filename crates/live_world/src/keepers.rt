@@ -1,31 +1,45 @@
 //! What happens at a keeper's machine.
 
-use crate::event::{HandAct, Planned};
+ghost use Rattle.std.specs.Prelude.{◌≡◌, ◌⊎◌, ℕ, IfOk, IfErr, IfSome, IfNone, OnOk, OnErr, Some, None, take};
+ghost use Rattle.std.specs.List.{AllByRecursion, flat_map};
+ghost use Rattle.fragment_codec.specs.Streams.{IsFrame, spelling};
+ghost use Rattle.live_world.specs.Calls.{BeginsNot, CrashesAt, HandsRead, HasBegun, HasLogged, LogsNot, IsNotHandedOver, TakesAll, TakesNot};
+
+use crate::event::Planned;
 use crate::fault::EventFault;
-use crate::hand::{HandFault, HandedTo, hand_over};
+use crate::hand::{HandedTo, hand_over};
 use crate::site::Site;
 use fragment_codec::{Frame, FrameFault, write_frame};
 use ft_types::{Guest, Keeper, Memory, MemorySink};
-use stations::{FenceFault, KeeperStation, LogFault, WrittenFeed, WrittenFrame};
+use stations::{KeeperStation, WrittenFeed, WrittenFrame};
 use std::alloc::Global;
+use std::option::Option;
 use std::result::Result;
 use wire::Acknowledgement;
 
-/// The keeper begins, or comes back.
+/// The keeper begins, or comes back; between its acts this happens.
 pub(crate) fn begin(
     alloc: Global,
     guest: Guest,
     keeper: Keeper,
     site: &mut Site,
-) -> Result<(), EventFault> {
+    plan: Vec<Planned>,
+) -> Result<(), EventFault>
+    ensures begun { OnOk result (HasBegun guest keeper site.old site.new) }
+    ensures refused { IfErr result (λ f. BeginsNot guest site.old f site.new) }
+{
     if site.station.is_some() {
         return Err(EventFault::Runs);
     }
-    site.files.begin_anew();
-    site.files.plan(Vec::new(alloc));
-    match KeeperStation::begin(alloc, guest, keeper, &mut site.files) {
+    site.files.plan(plan);
+    let begun = KeeperStation::begin(alloc, guest, keeper, &mut site.files);
+    site.files.end_plan(alloc);
+    let crashed = site.files.end_call();
+    match begun {
         Ok(station) => {
-            site.station = Some(station);
+            if !crashed {
+                site.station = Some(station);
+            }
             Ok(())
         }
         Err(fault) => Err(EventFault::Log(fault)),
@@ -33,7 +47,9 @@ pub(crate) fn begin(
 }
 
 /// The bytes of frames.
-fn stream_of(alloc: Global, frames: &[Frame]) -> Result<Vec<u8>, Memory> {
+fn stream_of(alloc: Global, frames: &[Frame]) -> Result<Vec<u8>, Memory>
+    ensures { IfOk result (λ bytes. bytes.items ≡ flat_map spelling frames.now) }
+{
     let mut sink = MemorySink::new(alloc, usize::MAX);
     for frame in frames {
         if write_frame(frame, &mut sink).is_err() {
@@ -44,12 +60,14 @@ fn stream_of(alloc: Global, frames: &[Frame]) -> Result<Vec<u8>, Memory> {
 }
 
 /// The keeper takes these frames.
-fn take_all(
-    alloc: Global,
-    station: &mut KeeperStation,
-    frames: Vec<WrittenFrame>,
-) -> Result<(), Memory> {
+fn take_all(alloc: Global, site: &mut Site, frames: Vec<WrittenFrame>) -> Result<(), EventFault>
+    ensures taken { OnOk result (TakesAll frames.items site.old site.new) }
+    ensures some { IfErr result (λ f. TakesNot frames.items site.old f site.new) }
+{
     for frame in frames {
+        let Some(station) = &mut site.station else {
+            return Err(EventFault::Rests);
+        };
         let _put = station.take(alloc, frame)?;
     }
     Ok(())
@@ -66,7 +84,7 @@ fn fault_of(fault: FrameFault) -> EventFault {
 /// The keeper takes the frames of a stream that comes in pieces of so many bytes.
 fn take_stream(
     alloc: Global,
-    station: &mut KeeperStation,
+    site: &mut Site,
     stream: &[u8],
     size: usize,
 ) -> Result<(), EventFault> {
@@ -74,7 +92,7 @@ fn take_stream(
     for piece in stream.chunks(size.max(1)) {
         match feed.push(alloc, piece) {
             Ok((frames, next)) => {
-                take_all(alloc, station, frames)?;
+                take_all(alloc, site, frames)?;
                 feed = next;
             }
             Err(fault) => return Err(fault_of(fault)),
@@ -89,31 +107,33 @@ pub(crate) fn take(
     site: &mut Site,
     frames: &[Frame],
     size: usize,
-) -> Result<(), EventFault> {
-    let Some(mut station) = site.station.take() else {
+) -> Result<(), EventFault>
+    ensures taken { OnOk result (TakesAll frames.now site.old site.new) }
+    ensures refused { IfErr result (λ f. TakesNot frames.now site.old f site.new) }
+{
+    if site.station.is_none() {
         return Err(EventFault::Rests);
-    };
-    let stream = stream_of(alloc, frames);
-    let taken = match stream {
-        Ok(stream) => take_stream(alloc, &mut station, &stream, size),
-        Err(Memory) => Err(EventFault::Memory),
-    };
-    site.station = Some(station);
-    taken
+    }
+    let stream = stream_of(alloc, frames)?;
+    take_stream(alloc, site, &stream, size)
 }
 
-/// The keeper logs what came and acknowledges; between its acts this happens. Where its files fail it is gone.
+/// The keeper logs what came and acknowledges; between its acts this happens. Where its files fail, or its machine crashes, it is gone.
 pub(crate) fn log(
     alloc: Global,
     site: &mut Site,
     plan: Vec<Planned>,
-) -> Result<Option<Acknowledgement>, EventFault> {
+) -> Result<Option<Acknowledgement>, EventFault>
+    ensures logged { IfOk result (λ said. HasLogged site.old said site.new) }
+    ensures refused { IfErr result (λ f. LogsNot site.old f site.new) }
+{
     let Some(station) = site.station.take() else {
         return Err(EventFault::Rests);
     };
     site.files.plan(plan);
     let logged = station.log_and_acknowledge(alloc, &mut site.files);
-    let crashed = site.files.end_plan(alloc);
+    site.files.end_plan(alloc);
+    let crashed = site.files.end_call();
     match logged {
         Ok((station, said)) => {
             if !crashed {
@@ -125,16 +145,13 @@ pub(crate) fn log(
     }
 }
 
-/// Its machine crashes.
-pub(crate) fn crash(site: &mut Site, left: usize) -> Result<(), EventFault> {
-    site.files.crash(left)?;
+/// Its machine crashes, and leaves so many bytes of the log.
+pub(crate) fn crash(site: &mut Site, left: usize)
+    ensures { CrashesAt site.old site.new }
+{
+    site.files.crash(left);
+    let _crashed = site.files.end_call();
     site.station = None;
-    Ok(())
-}
-
-/// Whoever hands the keeper's log over does this.
-pub(crate) fn hand(alloc: Global, site: &mut Site, act: HandAct) -> Result<(), EventFault> {
-    site.files.hand_does(alloc, act)
 }
 
 /// What is handed over by whoever has read the log, if anybody.
@@ -143,16 +160,16 @@ pub(crate) fn handed(
     guest: &Guest,
     keeper: Keeper,
     site: &mut Site,
-) -> Result<Option<HandedTo>, EventFault> {
+) -> Result<Option<HandedTo>, EventFault>
+    ensures handed { IfOk result (HandsRead guest.now keeper site.old) }
+    ensures refused { IfErr result (IsNotHandedOver guest.now site.old) }
+    ensures rest { site.new ≡ record site.old { files = record site.old.files { read = None } } }
+{
     let Some(read) = site.files.take_read() else {
         return Ok(None);
     };
     match hand_over(alloc, guest, keeper, read) {
         Ok(handed) => Ok(Some(handed)),
-        Err(HandFault::Log(fault)) => Err(EventFault::Log(fault)),
-        Err(HandFault::Fence(FenceFault::Fenced(last))) => Err(EventFault::Fenced(last)),
-        Err(HandFault::Fence(FenceFault::Files(fault))) => {
-            Err(EventFault::Log(LogFault::Files(fault)))
-        }
+        Err(fault) => Err(EventFault::Log(fault)),
     }
 }

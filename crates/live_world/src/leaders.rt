@@ -1,18 +1,26 @@
-//! What happens to a primary.
+//! What happens to primaries.
+
+ghost use Rattle.std.specs.Prelude.{◌≡◌, ℕ, List, [], ◌∷◌, IfOk, IfErr, OnOk, OnErr};
+ghost use Rattle.ft_types.specs.Guests.{GuestParts};
+ghost use Rattle.ft_types.specs.declared.quorum.Quorum.{Quorum as quorum_of_specs};
+ghost use Rattle.guest_image.specs.Image.{ImageContents, guest_of};
+ghost use Rattle.fenced_keeper.specs.declared.keeper.Given.{Given as given_of_specs};
+ghost use Rattle.fragment_codec.specs.declared.frame.Frame.TheVariants.{Opening as OpeningFrame};
+ghost use Rattle.leading.specs.Beginning.{GoesLiveGiven};
+ghost use Rattle.live_world.specs.declared.hand.HandedTo.{HandedTo as handed_of_specs};
+ghost use Rattle.leading.specs.Leaders.{BeginBehind};
+ghost use Rattle.live_world.specs.Grants.{AreGivenBy, IsNotLive, HasLogs};
 
 use crate::fault::EventFault;
 use crate::hand::HandedTo;
 use crate::room::make_room;
-use crate::seat::Seat;
 use fenced_keeper::Given;
 use fragment_codec::Frame;
 use ft_types::{Guest, Memory, Quorum, Term};
 use guest_image::Image;
-use leading::{HandedLog, Heard, Leader, read_handed_log};
+use leading::{HandedLog, Leader, read_handed_log};
 use std::alloc::Global;
-use std::option::Option;
 use std::result::Result;
-use wire::{Answer, Request};
 
 /// The logs with these numbers of those that were handed over.
 fn logs_of(
@@ -20,7 +28,10 @@ fn logs_of(
     guest: Guest,
     handed: &[HandedTo],
     numbers: &[usize],
-) -> Result<Vec<HandedLog>, EventFault> {
+) -> Result<Vec<HandedLog>, EventFault>
+    ensures logs { IfOk result (λ logs. HasLogs guest handed.now numbers.now logs.items) }
+    ensures refused { IfErr result (λ f. (image : ImageContents) (quorum : quorum_of_specs) (term : ℕ) → guest_of image ≡ guest → IsNotLive image quorum term handed.now numbers.now f) }
+{
     let mut logs = Vec::new(alloc);
     for number in numbers {
         if *number >= handed.len() {
@@ -28,9 +39,8 @@ fn logs_of(
         }
         match read_handed_log(alloc, guest, handed[*number].bytes.as_slice()) {
             Ok(log) => {
-                if logs.push(log).is_err() {
-                    return Err(EventFault::Memory);
-                }
+                make_room(&mut logs)?;
+                logs.push_reserved(log);
             }
             Err(fault) => return Err(EventFault::Handed(fault)),
         }
@@ -39,7 +49,10 @@ fn logs_of(
 }
 
 /// The stores of these logs, as they were given.
-fn given_of<'k>(alloc: Global, logs: &'k [HandedLog]) -> Result<Vec<Given<'k>>, Memory> {
+fn given_of<'k>(alloc: Global, logs: &'k [HandedLog]) -> Result<Vec<Given<'k>>, Memory>
+    ensures { (guest : GuestParts) (handed : List handed_of_specs) (numbers : List ℕ) → HasLogs guest handed numbers logs.now →
+        IfOk result (λ given. AreGivenBy guest handed numbers given.items) }
+{
     let mut given = Vec::new(alloc);
     given.reserve(logs.len())?;
     for log in logs {
@@ -48,7 +61,7 @@ fn given_of<'k>(alloc: Global, logs: &'k [HandedLog]) -> Result<Vec<Given<'k>>, 
     Ok(given)
 }
 
-/// The primary of a term that goes live from what was handed over, by these numbers, and what it sends first, as a batch.
+/// The primary of a term that goes live from what was handed over, by these numbers, and the frame that it sends first.
 pub(crate) fn go_live(
     alloc: Global,
     image: &Image,
@@ -56,54 +69,18 @@ pub(crate) fn go_live(
     term: Term,
     handed: &[HandedTo],
     numbers: &[usize],
-) -> Result<(Leader, Vec<Frame>), EventFault> {
+) -> Result<(Leader, Frame), EventFault>
+    ensures live { IfOk result (λ r. (given : List given_of_specs) × AreGivenBy (guest_of image.now) handed.now numbers.now given ×
+        GoesLiveGiven image.now quorum term given r.0.primary r.0.gate) }
+    ensures opening { IfOk result (λ r. r.1 ≡ OpeningFrame r.0.primary.opening) }
+    ensures queues { IfOk result (λ r. BeginBehind r.0.primary.book.start r.0.queues) }
+    ensures released { IfOk result (λ r. r.0.released ≡ []) }
+    ensures refused { IfErr result (λ f. IsNotLive image.now quorum term handed.now numbers.now f) }
+{
     let logs = logs_of(alloc, image.guest(), handed, numbers)?;
     let given = given_of(alloc, &logs)?;
-    let mut batch = Vec::new(alloc);
-    make_room(&mut batch)?;
     match Leader::go_live(alloc, image, &given, quorum, term) {
-        Ok((leader, opening)) => {
-            batch.push_reserved(opening);
-            Ok((leader, batch))
-        }
+        Ok(live) => Ok(live),
         Err(fault) => Err(EventFault::Lead(fault)),
     }
-}
-
-/// What is told at once of what comes to a primary.
-pub(crate) fn hear(
-    alloc: Global,
-    leader: &mut Leader,
-    request: &Request,
-) -> Result<Vec<Answer>, Memory> {
-    match leader.hear(alloc, request)? {
-        Heard::Told(answers) => Ok(answers),
-        _ => Ok(Vec::new(alloc)),
-    }
-}
-
-/// What the primary of this number tells of an output that went out, as a batch.
-pub(crate) fn told_by(
-    alloc: Global,
-    led: &[Option<Seat>],
-    primary: usize,
-    number: usize,
-) -> Result<Vec<Answer>, EventFault> {
-    if primary >= led.len() {
-        return Err(EventFault::NoPrimary);
-    }
-    let Some(Seat { leader, runs: true }) = &led[primary] else {
-        return Err(EventFault::NoPrimary);
-    };
-    let released = leader.released();
-    if number >= released.len() {
-        return Err(EventFault::NoneOut);
-    }
-    let mut batch = Vec::new(alloc);
-    make_room(&mut batch)?;
-    batch.push_reserved(Answer {
-        term: leader.term(),
-        output: released[number].output,
-    });
-    Ok(batch)
 }

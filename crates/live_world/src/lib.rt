@@ -3,24 +3,26 @@
 
 #[cfg(test)]
 mod acting;
-mod clients;
+mod at_clients;
+mod at_keepers;
+mod at_primaries;
 mod event;
 mod fault;
 mod files;
 mod hand;
 mod keepers;
 mod leaders;
+mod parts;
 mod room;
 mod seat;
 mod site;
 #[cfg(test)]
 mod tests;
-mod told;
 mod world;
 
-pub use event::{HandAct, LiveEvent, Meanwhile, Planned};
+pub use event::{ClientEvent, HandAct, KeeperEvent, LiveEvent, Meanwhile, Planned, PrimaryEvent};
 pub use fault::EventFault;
 pub use files::MemoryFiles;
 pub use hand::HandedTo;
-pub use told::{Happened, Party, ToldAct};
+pub use site::Site;
 pub use world::LiveWorld;

@@ -1,6 +1,7 @@
 //! A keeper's machine: its files, and its process where that runs.
 
-ghost use Rattle.std.specs.Prelude.{◌≡◌, ◌<◌, length, slice_get, slice_set, None, Some, IfSome, IfNone};
+ghost use Rattle.std.specs.Prelude.{◌≡◌, ◌<◌, length, replicate, slice_get, slice_set, None, Some, IfOk, IfSome, IfNone};
+ghost use Rattle.live_world.specs.Sites.{empty_site, site_at};
 
 use crate::files::MemoryFiles;
 use ft_types::{Keeper, Memory};
@@ -19,7 +20,9 @@ pub struct Site {
 }
 
 /// So many machines with nothing on disk, and no process.
-pub(crate) fn empty_sites(alloc: Global, keepers: u8) -> Result<Vec<Option<Site>>, Memory> {
+pub(crate) fn empty_sites(alloc: Global, keepers: u8) -> Result<Vec<Option<Site>>, Memory>
+    ensures { IfOk result (λ sites. sites.items ≡ replicate keepers (Some empty_site)) }
+{
     let mut sites = Vec::new(alloc);
     for _ in 0..keepers {
         sites.push(Some(Site {
@@ -32,8 +35,9 @@ pub(crate) fn empty_sites(alloc: Global, keepers: u8) -> Result<Vec<Option<Site>
 
 /// Takes a machine out, where it is there.
 pub(crate) fn take_site(sites: &mut Vec<Option<Site>>, keeper: Keeper) -> Option<Site>
-    ensures some { IfSome result (λ site. (slice_get sites.old.items keeper ≡ Some (Some site)) × (sites.new.items ≡ slice_set sites.old.items keeper None)) }
-    ensures none { IfNone result (sites.new.items ≡ sites.old.items) }
+    ensures some { IfSome result (λ site. (site_at sites.old.items keeper ≡ Some site) × (sites.new.items ≡ slice_set sites.old.items keeper None)) }
+    ensures within { IfSome result (λ site. keeper < length sites.old.items) }
+    ensures none { IfNone result ((site_at sites.old.items keeper ≡ None) × (sites.new.items ≡ sites.old.items)) }
 {
     if keeper.index() >= sites.len() {
         return None;

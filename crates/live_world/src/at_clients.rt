@@ -1,0 +1,111 @@
+//! What happens to clients, and what anybody asks for.
+
+ghost use Rattle.std.specs.Prelude.{◌≡◌, IfErr, OnOk};
+ghost use Rattle.live_world.specs.declared.event.ClientEvent.TheVariants as on;
+ghost use Rattle.live_world.specs.Happenings.{ClientHappens};
+ghost use Rattle.live_world.specs.Refusals.{ClientRefuses, ClientLeaves};
+ghost use Rattle.live_world.specs.Views.{GoesTo};
+
+use crate::fault::EventFault;
+use crate::parts::LiveParts;
+use crate::room::{add_all, make_room};
+use asking::Talk;
+use std::alloc::Global;
+use std::result::Result;
+use wire::{Request, answer_line};
+
+impl LiveParts {
+    /// A client comes, that has heard nothing.
+    pub(crate) fn join(
+        &mut self,
+        alloc: Global,
+        words: Vec<u32>,
+        window: usize,
+    ) -> Result<(), EventFault>
+        ensures happens { OnOk result (ClientHappens self.old (on.Join words window) self.new) }
+        ensures refused { IfErr result (ClientRefuses self.old (on.Join words window)) }
+        ensures left { IfErr result (λ f. ClientLeaves self.old (on.Join words window) f self.new) }
+        ensures goes { GoesTo self.old self.new }
+    {
+        make_room(&mut self.clients)?;
+        let client = Talk::new(alloc, words, window)?;
+        self.clients.push_reserved(client);
+        Ok(())
+    }
+
+    /// Whoever there is asks for something by hand.
+    pub(crate) fn want(&mut self, request: Request) -> Result<(), EventFault>
+        ensures happens { OnOk result (ClientHappens self.old (on.Want request) self.new) }
+        ensures refused { IfErr result (ClientRefuses self.old (on.Want request)) }
+        ensures left { IfErr result (λ f. ClientLeaves self.old (on.Want request) f self.new) }
+        ensures goes { GoesTo self.old self.new }
+    {
+        make_room(&mut self.asked)?;
+        self.asked.push_reserved(request);
+        Ok(())
+    }
+
+    /// A client asks for its next word, where it asks for one.
+    pub(crate) fn ask(&mut self, client: usize) -> Result<(), EventFault>
+        ensures happens { OnOk result (ClientHappens self.old (on.Ask client) self.new) }
+        ensures refused { IfErr result (ClientRefuses self.old (on.Ask client)) }
+        ensures left { IfErr result (λ f. ClientLeaves self.old (on.Ask client) f self.new) }
+        ensures goes { GoesTo self.old self.new }
+    {
+        make_room(&mut self.asked)?;
+        if client >= self.clients.len() {
+            return Err(EventFault::NoClient);
+        }
+        if let Some(request) = self.clients[client].ask() {
+            self.asked.push_reserved(request);
+        }
+        Ok(())
+    }
+
+    /// A client asks once more.
+    pub(crate) fn ask_again(&mut self, alloc: Global, client: usize) -> Result<(), EventFault>
+        ensures happens { OnOk result (ClientHappens self.old (on.AskAgain client) self.new) }
+        ensures refused { IfErr result (ClientRefuses self.old (on.AskAgain client)) }
+        ensures left { IfErr result (λ f. ClientLeaves self.old (on.AskAgain client) f self.new) }
+        ensures goes { GoesTo self.old self.new }
+    {
+        if client >= self.clients.len() {
+            return Err(EventFault::NoClient);
+        }
+        let requests = self.clients[client].ask_again(alloc)?;
+        Ok(add_all(&mut self.asked, requests)?)
+    }
+
+    /// The text of the line of an answer comes to a client.
+    pub(crate) fn answer(&mut self, client: usize, told: usize) -> Result<(), EventFault>
+        ensures happens { OnOk result (ClientHappens self.old (on.Answer client told) self.new) }
+        ensures refused { IfErr result (ClientRefuses self.old (on.Answer client told)) }
+        ensures left { IfErr result (λ f. ClientLeaves self.old (on.Answer client told) f self.new) }
+        ensures goes { GoesTo self.old self.new }
+    {
+        if told >= self.told.len() {
+            return Err(EventFault::NoneTold);
+        }
+        if client >= self.clients.len() {
+            return Err(EventFault::NoClient);
+        }
+        let line = answer_line(&self.told[told]);
+        let bytes = line.as_slice();
+        let _heard = self.clients[client].hear(&bytes[..bytes.len().saturating_sub(1)]);
+        Ok(())
+    }
+
+    /// A client tells its next answer, where it is there.
+    pub(crate) fn print(&mut self, client: usize) -> Result<(), EventFault>
+        ensures happens { OnOk result (ClientHappens self.old (on.Print client) self.new) }
+        ensures refused { IfErr result (ClientRefuses self.old (on.Print client)) }
+        ensures left { IfErr result (λ f. ClientLeaves self.old (on.Print client) f self.new) }
+        ensures goes { GoesTo self.old self.new }
+    {
+        if client >= self.clients.len() {
+            return Err(EventFault::NoClient);
+        }
+        let _told = self.clients[client].tell();
+        Ok(())
+    }
+}

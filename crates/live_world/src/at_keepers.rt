@@ -1,0 +1,183 @@
+//! What happens to keepers, and to whoever hands their logs over.
+
+ghost use Rattle.std.specs.Prelude.{◌≡◌, IfErr, OnOk};
+ghost use Rattle.live_world.specs.declared.event.KeeperEvent.TheVariants as on;
+ghost use Rattle.live_world.specs.Happenings.{KeeperHappens};
+ghost use Rattle.live_world.specs.Refusals.{KeeperRefuses, KeeperLeaves};
+ghost use Rattle.live_world.specs.Views.{GoesTo};
+
+use crate::event::{HandAct, Planned};
+use crate::fault::EventFault;
+use crate::keepers;
+use crate::parts::LiveParts;
+use crate::room::make_room;
+use crate::site::{put_site, take_site};
+use ft_types::Keeper;
+use std::alloc::Global;
+use std::result::Result;
+
+impl LiveParts {
+    /// A keeper begins; what was read of its log meanwhile is handed over.
+    pub(crate) fn begin(
+        &mut self,
+        alloc: Global,
+        keeper: Keeper,
+        plan: Vec<Planned>,
+    ) -> Result<(), EventFault>
+        ensures happens { OnOk result (KeeperHappens self.old (on.Begin keeper plan) self.new) }
+        ensures refused { IfErr result (KeeperRefuses self.old (on.Begin keeper plan)) }
+        ensures left { IfErr result (λ f. KeeperLeaves self.old (on.Begin keeper plan) f self.new) }
+        ensures goes { GoesTo self.old self.new }
+    {
+        let guest = self.image.guest();
+        make_room(&mut self.handed)?;
+        let Some(mut site) = take_site(&mut self.sites, keeper) else {
+            return Err(EventFault::NoKeeper);
+        };
+        let begun = keepers::begin(alloc, guest, keeper, &mut site, plan);
+        if let Err(EventFault::Runs) = begun {
+            put_site(&mut self.sites, keeper, site);
+            return begun;
+        }
+        let handed = keepers::handed(alloc, &guest, keeper, &mut site);
+        put_site(&mut self.sites, keeper, site);
+        if let Some(handed) = handed? {
+            self.handed.push_reserved(handed);
+        }
+        begun
+    }
+
+    /// Frames come to a keeper.
+    pub(crate) fn take(
+        &mut self,
+        alloc: Global,
+        keeper: Keeper,
+        from: usize,
+        to: usize,
+        piece: usize,
+    ) -> Result<(), EventFault>
+        ensures happens { OnOk result (KeeperHappens self.old (on.Take keeper from to piece) self.new) }
+        ensures refused { IfErr result (KeeperRefuses self.old (on.Take keeper from to piece)) }
+        ensures left { IfErr result (λ f. KeeperLeaves self.old (on.Take keeper from to piece) f self.new) }
+        ensures goes { GoesTo self.old self.new }
+    {
+        if from > to || to > self.frames.len() {
+            return Err(EventFault::NoFrame);
+        }
+        let Some(mut site) = take_site(&mut self.sites, keeper) else {
+            return Err(EventFault::NoKeeper);
+        };
+        let frames = &self.frames.as_slice()[from..to];
+        let taken = keepers::take(alloc, &mut site, frames, piece);
+        put_site(&mut self.sites, keeper, site);
+        taken
+    }
+
+    /// A keeper logs and acknowledges; what was read of its log meanwhile is handed over.
+    pub(crate) fn log(
+        &mut self,
+        alloc: Global,
+        keeper: Keeper,
+        plan: Vec<Planned>,
+    ) -> Result<(), EventFault>
+        ensures happens { OnOk result (KeeperHappens self.old (on.Log keeper plan) self.new) }
+        ensures refused { IfErr result (KeeperRefuses self.old (on.Log keeper plan)) }
+        ensures left { IfErr result (λ f. KeeperLeaves self.old (on.Log keeper plan) f self.new) }
+        ensures goes { GoesTo self.old self.new }
+    {
+        let guest = self.image.guest();
+        make_room(&mut self.said)?;
+        make_room(&mut self.handed)?;
+        let Some(mut site) = take_site(&mut self.sites, keeper) else {
+            return Err(EventFault::NoKeeper);
+        };
+        let logged = keepers::log(alloc, &mut site, plan);
+        if let Err(EventFault::Rests) = &logged {
+            put_site(&mut self.sites, keeper, site);
+            return Err(EventFault::Rests);
+        }
+        let handed = keepers::handed(alloc, &guest, keeper, &mut site);
+        put_site(&mut self.sites, keeper, site);
+        if let Ok(Some(said)) = &logged {
+            self.said.push_reserved(*said);
+        }
+        if let Some(handed) = handed? {
+            self.handed.push_reserved(handed);
+        }
+        match logged {
+            Ok(_) => Ok(()),
+            Err(fault) => Err(fault),
+        }
+    }
+
+    /// A keeper's process ends.
+    pub(crate) fn end_keeper(&mut self, keeper: Keeper) -> Result<(), EventFault>
+        ensures happens { OnOk result (KeeperHappens self.old (on.KeeperEnds keeper) self.new) }
+        ensures refused { IfErr result (KeeperRefuses self.old (on.KeeperEnds keeper)) }
+        ensures left { IfErr result (λ f. KeeperLeaves self.old (on.KeeperEnds keeper) f self.new) }
+        ensures goes { GoesTo self.old self.new }
+    {
+        let Some(mut site) = take_site(&mut self.sites, keeper) else {
+            return Err(EventFault::NoKeeper);
+        };
+        site.station = None;
+        put_site(&mut self.sites, keeper, site);
+        Ok(())
+    }
+
+    /// A keeper's machine crashes.
+    pub(crate) fn crash(&mut self, keeper: Keeper, left: usize) -> Result<(), EventFault>
+        ensures happens { OnOk result (KeeperHappens self.old (on.Crash keeper left) self.new) }
+        ensures refused { IfErr result (KeeperRefuses self.old (on.Crash keeper left)) }
+        ensures left { IfErr result (λ f. KeeperLeaves self.old (on.Crash keeper left) f self.new) }
+        ensures goes { GoesTo self.old self.new }
+    {
+        let Some(mut site) = take_site(&mut self.sites, keeper) else {
+            return Err(EventFault::NoKeeper);
+        };
+        keepers::crash(&mut site, left);
+        put_site(&mut self.sites, keeper, site);
+        Ok(())
+    }
+
+    /// A keeper is lost.
+    pub(crate) fn lose(&mut self, keeper: Keeper) -> Result<(), EventFault>
+        ensures happens { OnOk result (KeeperHappens self.old (on.Lose keeper) self.new) }
+        ensures refused { IfErr result (KeeperRefuses self.old (on.Lose keeper)) }
+        ensures left { IfErr result (λ f. KeeperLeaves self.old (on.Lose keeper) f self.new) }
+        ensures goes { GoesTo self.old self.new }
+    {
+        match take_site(&mut self.sites, keeper) {
+            Some(_) => Ok(()),
+            None => Err(EventFault::NoKeeper),
+        }
+    }
+
+    /// Whoever hands a keeper's log over does this.
+    pub(crate) fn hand(
+        &mut self,
+        alloc: Global,
+        keeper: Keeper,
+        act: HandAct,
+    ) -> Result<(), EventFault>
+        ensures happens { OnOk result (KeeperHappens self.old (on.Hand keeper act) self.new) }
+        ensures refused { IfErr result (KeeperRefuses self.old (on.Hand keeper act)) }
+        ensures left { IfErr result (λ f. KeeperLeaves self.old (on.Hand keeper act) f self.new) }
+        ensures goes { GoesTo self.old self.new }
+    {
+        make_room(&mut self.handed)?;
+        let Some(mut site) = take_site(&mut self.sites, keeper) else {
+            return Err(EventFault::NoKeeper);
+        };
+        if let Err(fault) = site.files.hand_does(alloc, act) {
+            put_site(&mut self.sites, keeper, site);
+            return Err(fault);
+        }
+        let handed = keepers::handed(alloc, &self.image.guest(), keeper, &mut site);
+        put_site(&mut self.sites, keeper, site);
+        if let Some(handed) = handed? {
+            self.handed.push_reserved(handed);
+        }
+        Ok(())
+    }
+}
