@@ -1,0 +1,4 @@
+pub mod Following
+pub mod Growing
+pub mod Disks
+pub mod AtSites

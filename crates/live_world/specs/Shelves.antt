@@ -7,7 +7,7 @@ use Rattle.live_world.specs.declared.event.HandAct.{HandAct}
 use Rattle.live_world.specs.declared.event.HandAct.TheVariants as hands
 use Rattle.live_world.specs.declared.fault.EventFault.{EventFault}
 use Rattle.live_world.specs.declared.fault.EventFault.TheVariants as fault
-use Rattle.live_world.specs.declared.hand.LogRead.{LogRead}
+use Rattle.live_world.specs.declared.log_read.LogRead.{LogRead}
 use Rattle.live_world.specs.declared.hand.Stage.{Stage}
 use Rattle.live_world.specs.declared.hand.Stage.TheVariants as stage
 

@@ -5,7 +5,8 @@ ghost use Rattle.live_world.specs.Shelves.{ShelfView, Besides, HandDoes, HasCras
 
 use crate::event::{HandAct, Meanwhile, Planned};
 use crate::fault::EventFault;
-use crate::hand::{LogRead, SeenFiles, Stage, copy_of, fenced};
+use crate::hand::{Stage, copy_of, fenced};
+use crate::log_read::LogRead;
 use ft_types::{Memory, Term};
 use stations::{FenceFault, FilesFault, KeeperFiles};
 use std::alloc::Global;

@@ -4,22 +4,11 @@ ghost use Rattle.std.specs.Prelude.{◌≡◌, ◌<◌, IfOk, IfErr, OnOk};
 ghost use Rattle.live_world.specs.Hands.{HasHanded, IsNotFencedOff, IsNotRead};
 ghost use Rattle.live_world.specs.Shelves.{read_view};
 
+use crate::log_read::LogRead;
 use ft_types::{Guest, Keeper, Memory, Term};
 use stations::{FenceFault, FencedLog, FilesFault, HandedOver, KeeperFiles, LogFault, fence_off};
 use std::alloc::Global;
 use std::result::Result;
-
-/// What whoever hands a log over has read of it.
-#[derive(Drop)]
-pub struct LogRead {
-    /// The last fence that it saw before it put its own.
-    pub last: Term,
-    /// The term of the fence that it put.
-    pub term: Term,
-    /// The bytes that the log had behind that.
-    pub log: Vec<u8>,
-    ghost above: { last < term },
-}
 
 /// Where whoever hands a log over stands.
 #[derive(Drop)]

@@ -12,6 +12,7 @@ mod files;
 mod hand;
 mod keepers;
 mod leaders;
+mod log_read;
 mod parts;
 mod room;
 mod seat;
