@@ -1,5 +1,9 @@
 pub mod Following
 pub mod Growing
+pub mod Readings
+pub mod AtDisks
+pub mod Through
+pub mod Steps
 pub mod Disks
 pub mod AtSites
 pub mod Telling
