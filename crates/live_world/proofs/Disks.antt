@@ -9,7 +9,7 @@ use Rattle.ft_types.specs.declared.position.Position.{Position}
 use Rattle.fragment_codec.specs.declared.frame.Frame.{Frame}
 use Rattle.fragment_codec.specs.Streams.{spelling}
 use Rattle.fragment_codec.proofs.streams.Splits.{splits_frames}
-use Rattle.guest_image.specs.Image.{guest_of}
+use Rattle.guest_image.specs.Image.{ImageContents, guest_of}
 use Rattle.stations.specs.Acts.{Act, SawLog, CutTo, Added, Synced as WasSynced, SawFence, Failed}
 use Rattle.stations.specs.Handshake.{Files}
 use Rattle.stations.specs.Stations.{StationView, Answers, IsNoKeepers, IsNotLogged, logging, said_of}
@@ -187,10 +187,10 @@ module _ {image : ImageContents} {keepers need : ℕ} {w : ProcessWorld} (comes 
       Stands w keeper v (Synced st) [] → Besides v o → IsDone o (SawFence fence) q →
       Stands w keeper q (Rests (logged st fence)) (option_to_list (option_map (said_of keeper) position))
   answers st fence None {o = o} may is between saw =
-      let le : o.files.fence ≤ fence = (let seen = saw.seen in omega arith) in
+      let le : o.files.fence ≤ fence = (let seen : fence ≡ o.files.fence = saw.seen in omega arith) in
       step comes (SawFence fence) (Rests (logged st fence)) is between saw (Looks st fence le)
   answers st fence (Some p) {o = o} may is between saw =
-      let le : o.files.fence ≤ fence = (let seen = saw.seen in omega arith) in
+      let le : o.files.fence ≤ fence = (let seen : fence ≡ o.files.fence = saw.seen in omega arith) in
       acknowledges comes fence (Rests (logged st fence)) p is between saw (Acknowledges st fence p le may)
 
   pub logged_goes : {said : Option Acknowledgement} {t : Site} → HasLogged s said t → GoesTill w keeper t (option_to_list said)

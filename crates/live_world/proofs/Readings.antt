@@ -3,7 +3,7 @@ use Rattle.std.proofs.Common.{◌≡◌, ◌++◌, ℕ, List, [], Option, None, 
 use Rattle.std.specs.List.{flat_map}
 use Rattle.fragment_codec.specs.declared.fault.FrameFault.{FrameFault}
 use Rattle.fragment_codec.specs.declared.frame.Frame.{Frame}
-use Rattle.fragment_codec.specs.Streams.{text_of, IsPartial, IsStuck, Splits, HasReading, Unread, Follows}
+use Rattle.fragment_codec.specs.Streams.{Spelled, text_of, IsPartial, IsStuck, Splits, HasReading, Unread, Follows}
 use Rattle.fragment_codec.proofs.streams.HasReading.{has_reading}
 use Rattle.fragment_codec.proofs.streams.Readings.{one_split, one_feed}
 use Rattle.fragment_codec.proofs.streams.Splits.{splits_more}
@@ -24,7 +24,7 @@ pub one_front : {log a b r q : List ℕ} → IsInFront log a r → IsInFront log
 one_front {a = a} {b = b} {r = r} {q = q} h k =
     let same =
     one_split h.splits.spelled k.splits.spelled r q h.splits.each k.splits.each (inl h.partial) (inl k.partial) (sym (whole h) ∙ whole k) in
-    h.splits.whole ∙ ap (λ spelled. flat_map text_of spelled ++ []) same.0 ∙ sym k.splits.whole
+    h.splits.whole ∙ ap (λ (spelled : List Spelled). flat_map text_of spelled ++ []) same.0 ∙ sym k.splits.whole
 
 -- where a fault stands behind the frames, nothing else does
 not_in_front : (log rest : List ℕ) (frames : List Frame) (fault : FrameFault) → Follows log frames (record { rest = rest; fault = Some fault }) →

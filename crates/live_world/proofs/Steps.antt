@@ -159,7 +159,6 @@ module _ {w : ProcessWorld} {keeper : ℕ} {s : ShelfView} {p : Phase} {said : L
   -- where it runs
   acts : (act : Act) (q : Phase) → s.crashed ≡ false → Keeps (guest_of w.image) s.files p act q Nothing → Stands w keeper (done_by act) q said
   acts act q lives keeps =
-      let d : Disk = record { files = s.files; keeper = p; hand = s.hand } in
       let e : Disk = record { files = after s.files (Did act); keeper = q; hand = s.hand } in
       let y : ProcessWorld = with_lists x keeper e [] [] in
       let goes : GoesAt w keeper e said y = quiet (as_disk (as_disk_of s p lives) is.goes) (KeeperDoes act q Nothing keeps) in
@@ -168,7 +167,6 @@ module _ {w : ProcessWorld} {keeper : ℕ} {s : ShelfView} {p : Phase} {said : L
   says_so : (act : Act) (q : Phase) (position : Position) → s.crashed ≡ false → Keeps (guest_of w.image) s.files p act q (Says position) →
       Stands w keeper (done_by act) q (record { term = position.term; keeper = keeper; counts = position.counts } ∷ said)
   says_so act q position lives keeps =
-      let d : Disk = record { files = s.files; keeper = p; hand = s.hand } in
       let e : Disk = record { files = after s.files (Did act); keeper = q; hand = s.hand } in
       let one : Acknowledgement = record { term = position.term; keeper = keeper; counts = position.counts } in
       let y : ProcessWorld = with_lists x keeper e (one ∷ []) [] in
