@@ -106,8 +106,11 @@ take_all s t (frame ∷ frames) sent goes (mid, one, others) =
 module _ {image : ImageContents} {keepers need : ℕ} {w : ProcessWorld} (comes : Comes image keepers need w) {keeper : ℕ} {s : Site}
     (at : w.disks keeper ≡ Some (disk_of s)) (rests : IsAtRest keeper s) where
   -- how the machine stands when the call begins
+  none_read : ReadIn w keeper s.files.read
+  none_read = subst (ReadIn w keeper) (sym rests.handed) tt
+
   stays : GoesTill w keeper s []
-  stays = (w, still_there at, subst (ReadIn w keeper) (sym rests.handed) tt)
+  stays = (w, still_there at, none_read)
 
   begins : (p : Phase) → phase_of s.station ≡ p → Stands w keeper s.files p []
   begins p same =
@@ -115,7 +118,7 @@ module _ {image : ImageContents} {keepers need : ℕ} {w : ProcessWorld} (comes 
         w,
         record {
           goes = as_disk (sym (as_disk_of s.files (phase_of s.station) rests.lives)) (still_there at);
-          read = stays.2;
+          read = none_read;
         },
       )
 
@@ -161,8 +164,8 @@ module _ {image : ImageContents} {keepers need : ℕ} {w : ProcessWorld} (comes 
 
   pub begun_not_goes : (f : EventFault) (t : Site) → BeginsNot (guest_of w.image) s f t → GoesTill w keeper t []
   begun_not_goes fault.Runs t (runs, same) = subst (λ (t : Site). GoesTill w keeper t []) (sym same) stays
-  begun_not_goes (fault.Log why) t (away, acts, no, l) =
-      elim (began_not (guest_of w.image) acts why no) [
+  begun_not_goes (fault.Log why) t (away, acts, no_keepers, l) =
+      elim (began_not (guest_of w.image) acts why no_keepers) [
         | inl (f, same) ↦ not_read t f away (subst (λ (acts : List Act). Leaves s acts None t) (sym same) l)
         | inr (inl (log, same)) ↦ was_read t log away (subst (λ (acts : List Act). Leaves s acts None t) (sym same) l)
         | inr (inr (log, f, same)) ↦ not_cut t log f away (subst (λ (acts : List Act). Leaves s acts None t) (sym same) l)
@@ -232,7 +235,7 @@ module _ {image : ImageContents} {keepers need : ℕ} {w : ProcessWorld} (comes 
 
   pub logged_not_goes : (f : EventFault) (t : Site) → LogsNot s f t → GoesTill w keeper t []
   logged_not_goes fault.Rests t (away, same) = subst (λ (t : Site). GoesTill w keeper t []) (sym same) stays
-  logged_not_goes (fault.Files why) t (st, runs, acts, no, l) = not_logged t st why acts runs no l
+  logged_not_goes (fault.Files why) t (st, runs, acts, none, l) = not_logged t st why acts runs none l
   logged_not_goes other t not = absurd not
 
   -- ---- crashes, and ends
@@ -246,7 +249,7 @@ module _ {image : ImageContents} {keepers need : ℕ} {w : ProcessWorld} (comes 
   end_goes =
       let gone : Site = record s { station = None } in
       let y : ProcessWorld = with_lists w keeper (disk_of gone) [] [] in
-      (y, quiet (still_there at) KeeperEnds, still_read w y keeper s.files.read (λ h has. has) stays.2)
+      (y, quiet (still_there at) KeeperEnds, still_read w y keeper s.files.read (λ h has. has) none_read)
 
   -- ---- whoever hands the log over
 
