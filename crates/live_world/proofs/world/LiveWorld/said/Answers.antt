@@ -1,4 +1,6 @@
 use Rattle.live_world.proofs.Telling as m5
+use Rattle.live_world.proofs.Seeing as m6
+use Rattle.live_world.proofs.Filing as m7
 use Rattle.live_world.proofs.world.LiveWorld.said.Goals as goal
 
 pub returns : goal.returns
