@@ -7,3 +7,5 @@ pub mod Steps
 pub mod Disks
 pub mod AtSites
 pub mod Telling
+pub mod Seeing
+pub mod Filing
