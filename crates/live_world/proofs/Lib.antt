@@ -1,4 +1,5 @@
 pub mod Following
 pub mod Growing
+pub mod Leading
 pub mod Disks
 pub mod AtSites
