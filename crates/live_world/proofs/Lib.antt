@@ -4,6 +4,7 @@ pub mod Readings
 pub mod AtDisks
 pub mod Through
 pub mod Steps
+pub mod Leading
 pub mod Disks
 pub mod AtSites
 pub mod Telling
