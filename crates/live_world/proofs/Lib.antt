@@ -10,3 +10,5 @@ pub mod AtSites
 pub mod Telling
 pub mod Seeing
 pub mod Filing
+pub mod Taking
+pub mod Calling

@@ -10,6 +10,8 @@ use Rattle.live_world.proofs.AtSites as m8
 use Rattle.live_world.proofs.Telling as m9
 use Rattle.live_world.proofs.Seeing as m10
 use Rattle.live_world.proofs.Filing as m11
+use Rattle.live_world.proofs.Taking as m12
+use Rattle.live_world.proofs.Calling as m13
 use Rattle.live_world.proofs.world.LiveWorld.said.Goals as goal
 
 pub returns : goal.returns
