@@ -3,3 +3,6 @@ pub mod Growing
 pub mod Disks
 pub mod AtSites
 pub mod Telling
+pub mod Clients
+pub mod Grants
+pub mod Firsts
