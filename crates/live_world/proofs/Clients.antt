@@ -115,7 +115,7 @@ answer_goes v u n t s a told there (inl (says, new, now)) clients rest =
     ap (λ (all : List TalkView). slice_set all n heard) is.clients ∙ ap (λ (x : TalkView). slice_set v.clients n x) (sym now) ∙ sym clients in
     (record w { clients = slice_set w.clients n heard }, once (HearsAnswer n t a (talks is n t there) ((is.told a).0 told) new),
     clients_both is u (slice_set w.clients n heard) rest both)
-answer_goes v u n t s a told there (inr (no, same)) clients rest = goes_nowhere (as_it_was v u n t s there clients same rest)
+answer_goes v u n t s a told there (inr (unheard, same)) clients rest = goes_nowhere (as_it_was v u n t s there clients same rest)
 
 -- an answer may be told
 print_goes : (v u : LiveView) (n : ℕ) (t s : TalkView) → slice_get v.clients n ≡ Some t → TellsNext t s → u.clients ≡ slice_set v.clients n s →

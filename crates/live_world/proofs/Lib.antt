@@ -6,3 +6,5 @@ pub mod Telling
 pub mod Clients
 pub mod Grants
 pub mod Firsts
+pub mod Logs
+pub mod Lines

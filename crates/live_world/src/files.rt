@@ -33,6 +33,7 @@ pub struct MemoryFiles {
 }
 
 impl Model for MemoryFiles {
+    ghost use Rattle.std.specs.Prelude.{◌≤◌, length};
     ghost use Rattle.live_world.specs.Shelves.{ShelfView, files_of, hand_of, read_of};
 
     ghost Value = { ShelfView };
