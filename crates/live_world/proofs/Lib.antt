@@ -12,3 +12,8 @@ pub mod Seeing
 pub mod Filing
 pub mod Taking
 pub mod Calling
+pub mod Clients
+pub mod Grants
+pub mod Firsts
+pub mod Logs
+pub mod Lines

@@ -12,6 +12,11 @@ use Rattle.live_world.proofs.Seeing as m10
 use Rattle.live_world.proofs.Filing as m11
 use Rattle.live_world.proofs.Taking as m12
 use Rattle.live_world.proofs.Calling as m13
+use Rattle.live_world.proofs.Clients as m14
+use Rattle.live_world.proofs.Grants as m15
+use Rattle.live_world.proofs.Firsts as m16
+use Rattle.live_world.proofs.Logs as m17
+use Rattle.live_world.proofs.Lines as m18
 use Rattle.live_world.proofs.world.LiveWorld.said.Goals as goal
 
 pub returns : goal.returns
