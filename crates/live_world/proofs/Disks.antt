@@ -68,5 +68,5 @@ module _ {image : ImageContents} {keepers need : ℕ} {w : ProcessWorld} (comes 
   end_goes = ?
 
   -- frames that were sent came to the keeper
-  pub take_goes : {t : Site} (frames : List Frame) → ((f : Frame) → Contains frames f → Contains w.frames f) → TakesAll frames s t → GoesTill w keeper t []
-  take_goes frames sent takes = ?
+  pub take_goes : (t : Site) (frames : List Frame) → ((f : Frame) → Contains frames f → Contains w.frames f) → TakesAll frames s t → GoesTill w keeper t []
+  take_goes t frames sent takes = ?

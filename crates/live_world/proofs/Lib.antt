@@ -2,3 +2,4 @@ pub mod Following
 pub mod Growing
 pub mod Disks
 pub mod AtSites
+pub mod Telling
