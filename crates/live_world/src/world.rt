@@ -135,8 +135,7 @@ impl LiveWorld {
     /// Whatever happened, in whatever order: the processes are a world of processes, which keeps all that is promised.
     pub fn promises(&self)
         ensures { (p : ProcessWorld) × Comes self.now.image self.now.quorum.keepers self.now.quorum.need p × IsWorldOf self.now p × KeepsPromises p }
-    {
-    }
+    {}
 
     /// All that keepers said.
     pub fn said(&self) -> &[Acknowledgement]
