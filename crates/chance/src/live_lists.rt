@@ -41,16 +41,17 @@ static LEAST: &[(usize, u64)] = &[
     (PRINTED, 1),
 ];
 
-/// Whether the promises are kept behind each event of the list.
-fn keeps_on(alloc: Global, list: &mut LiveList) -> Result<bool, Memory> {
+/// Whether the promises are kept behind each event of the list. Where memory is refused to one, nothing or a part of it happened, and the list goes on.
+fn keeps_on(alloc: Global, list: &mut LiveList) -> bool {
     for _ in 0..EVENTS {
-        list.goes_on(alloc)?;
+        let _done = list.goes_on(alloc);
         if !list.live.keeps_promises() {
-            return Ok(false);
+            return false;
         }
     }
-    list.ends(alloc)?;
-    Ok(list.live.keeps_promises())
+    let _done = list.ends(alloc);
+    list.live.world.promises();
+    list.live.keeps_promises()
 }
 
 /// Whether they are kept in the list of this number, of which what happened is added.
@@ -65,17 +66,30 @@ fn keeps_in(
     let keepers = dice.roll() % 5 + 1;
     let need = dice.roll() % keepers + 1;
     let mut list = LiveList::new(alloc, image, seed, keepers, need)?;
-    let _live = list.live.begins(alloc)?;
-    let kept = keeps_on(alloc, &mut list)?;
+    let _live = list.live.begins(alloc);
+    let kept = keeps_on(alloc, &mut list);
     tally.add_list(&list.tally);
     Ok(kept)
+}
+
+/// The same, once more where there was no memory for keepers with nothing.
+fn keeps_in_again(
+    alloc: Global,
+    image: &Image,
+    number: u64,
+    tally: &mut LiveTally,
+) -> Result<bool, Memory> {
+    match keeps_in(alloc, image, number, tally) {
+        Err(Memory) => keeps_in(alloc, image, number, tally),
+        kept => kept,
+    }
 }
 
 /// The number of the first list in which a promise is broken. What happened in all is added.
 fn first_broken(alloc: Global, tally: &mut LiveTally) -> Result<Option<u64>, Fail> {
     let image = image_of(alloc, SAYS_ALL)?;
     for number in 0..MANY {
-        if !keeps_in(alloc, &image, number, tally)? {
+        if !keeps_in_again(alloc, &image, number, tally)? {
             return Ok(Some(number));
         }
     }
