@@ -22,6 +22,8 @@ pub struct Live {
     pub world: LiveWorld,
     pub terms: Vec<Term>,
     pub keepers: u8,
+    /// How many steps a round has.
+    steps: u64,
 }
 
 /// The keeper of this number, or of its remainder by the greatest number of keepers.
@@ -81,7 +83,13 @@ fn outcome_of(answer: Result<(), EventFault>) -> Result<Outcome, Memory> {
 
 impl Live {
     /// Keepers with nothing on disk, and no primary.
-    pub fn new(alloc: Global, image: &Image, keepers: u8, need: u8) -> Result<Live, Memory> {
+    pub fn new(
+        alloc: Global,
+        image: &Image,
+        keepers: u8,
+        need: u8,
+        steps: u64,
+    ) -> Result<Live, Memory> {
         let Some(quorum) = Quorum::new(u64::from(keepers), u64::from(need)) else {
             return Err(Memory);
         };
@@ -89,6 +97,7 @@ impl Live {
             world: LiveWorld::new(alloc, image, quorum)?,
             terms: Vec::new(alloc),
             keepers,
+            steps,
         })
     }
 
@@ -227,10 +236,10 @@ impl Live {
         self.asks(alloc, term, request)
     }
 
-    /// Each hart of the term's machine goes on for so many steps.
-    pub fn round(&mut self, alloc: Global, term: Term, steps: u64) -> Result<bool, Memory> {
+    /// Each hart of the term's machine is handed a word that waits, and goes on.
+    pub fn round(&mut self, alloc: Global, term: Term) -> Result<bool, Memory> {
         let primary = self.primary_of(term);
-        let spacing = Spacing::Usual;
+        let (steps, spacing) = (self.steps, Spacing::None);
         let event = PrimaryEvent::Round {
             primary,
             steps,
@@ -312,7 +321,7 @@ impl Live {
     /// What comes of an act. What is written down is acknowledged at once: writing it down is nothing of its own here.
     pub fn act(&mut self, alloc: Global, act: Act) -> Result<Outcome, Memory> {
         let done = match act {
-            Act::Step(term, _) => self.round(alloc, term, 1)?,
+            Act::Step(term, _) => self.round(alloc, term)?,
             Act::Word(term, hart, word) => self.word(alloc, term, hart, word)?,
             Act::Timer(term, hart) => {
                 let hart = Hart::new(hart % HART_LIMIT);

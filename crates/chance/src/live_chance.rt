@@ -37,11 +37,27 @@ fn meanwhile(dice: &mut Dice, term: Term) -> Meanwhile {
     }
 }
 
+/// The log is handed over to the term meanwhile.
+fn handing(alloc: Global, dice: &mut Dice, term: Term) -> Result<Vec<Planned>, Memory> {
+    let mut plan = Vec::new(alloc);
+    let mut before = 0usize;
+    for act in [HandAct::Looks, HandAct::Fences(term), HandAct::Reads] {
+        before = before.saturating_add(usize::from(dice.roll() % 3));
+        plan.push(Planned {
+            before,
+            what: Meanwhile::Hand(act),
+        })?;
+    }
+    Ok(plan)
+}
+
 /// What is planned for a keeper's call: mostly nothing.
 fn plan(alloc: Global, dice: &mut Dice, term: Term) -> Result<Vec<Planned>, Memory> {
     let mut plan = Vec::new(alloc);
-    if dice.roll() % 3 != 0 {
-        return Ok(plan);
+    match dice.roll() % 12 {
+        0 => return handing(alloc, dice, term),
+        1..=3 => {}
+        _ => return Ok(plan),
     }
     let mut before = 0usize;
     for _ in 0..dice.roll() % 4 {
@@ -72,7 +88,7 @@ impl LiveList {
         need: u8,
     ) -> Result<LiveList, Memory> {
         Ok(LiveList {
-            live: Live::new(alloc, image, keepers, need)?,
+            live: Live::new(alloc, image, keepers, need, STEPS)?,
             dice: Dice::new(seed),
             tally: LiveTally::new(),
         })
@@ -166,17 +182,30 @@ impl LiveList {
         Ok(())
     }
 
-    /// A word or a question comes to a primary, or what was asked before once more.
+    /// The client asks for its next word, which comes to a primary.
+    fn asks_next(&mut self, alloc: Global) -> Result<(), Memory> {
+        let primary = self.live.primary_of(self.live.greatest_term());
+        let asked = self.live.world.asked().len();
+        let _asks = self.live.client_does(alloc, ClientEvent::Ask(0))?;
+        let done = self
+            .live
+            .primary_does(alloc, PrimaryEvent::Request { primary, asked })?;
+        self.count(ASKED, done);
+        Ok(())
+    }
+
+    /// A word or a question comes to a primary; mostly the client's next word.
     fn asks(&mut self, alloc: Global) -> Result<(), Memory> {
         let term = self.term();
         let hart = Hart::new(0);
-        let request = match self.dice.roll() % 4 {
-            0 => Request::From { hart, number: 0 },
-            _ => Request::Word {
+        let request = match self.dice.roll() % 16 {
+            0 | 1 => Request::From { hart, number: 0 },
+            2 => Request::Word {
                 hart,
                 word: u32::from(self.dice.roll()),
                 number: None,
             },
+            _ => return self.asks_next(alloc),
         };
         let asked = self.live.asks(alloc, term, request)?;
         self.count(ASKED, asked);
@@ -187,11 +216,22 @@ impl LiveList {
     fn rounds(&mut self, alloc: Global) -> Result<(), Memory> {
         let term = self.term();
         let primary = self.live.primary_of(term);
-        let done = self.live.round(alloc, term, STEPS)?;
+        let done = self.live.round(alloc, term)?;
         let _sealed = self
             .live
             .primary_does(alloc, PrimaryEvent::Seal(primary))?;
         self.count(ROUNDS, done);
+        Ok(())
+    }
+
+    /// The client hears what was told from this number on, and tells one answer.
+    fn hears(&mut self, alloc: Global, from: usize) -> Result<(), Memory> {
+        for told in from..self.live.world.told().len() {
+            let event = ClientEvent::Answer { client: 0, told };
+            let done = self.live.client_does(alloc, event)?;
+            self.count(HEARD, done);
+        }
+        let _told = self.live.client_does(alloc, ClientEvent::Print(0))?;
         Ok(())
     }
 
@@ -205,7 +245,7 @@ impl LiveList {
         if term < self.live.greatest_term() {
             self.tally.add(LATE_TOLD, more);
         }
-        Ok(())
+        self.hears(alloc, told)
     }
 
     /// Some keepers hand their logs over to the next term, and its primary goes live.
@@ -223,19 +263,24 @@ impl LiveList {
         Ok(())
     }
 
+    /// A client comes, with words of its own, of which two may be open.
+    pub fn joins(&mut self, alloc: Global) -> Result<(), Memory> {
+        let mut words = Vec::new(alloc);
+        for _ in 0..4 {
+            words.push(u32::from(self.dice.roll()))?;
+        }
+        let event = ClientEvent::Join { words, window: 2 };
+        let _joined = self.live.client_does(alloc, event)?;
+        Ok(())
+    }
+
     /// What happens to clients: one comes, asks, asks once more, hears what was told, and tells.
     fn talks(&mut self, alloc: Global) -> Result<(), Memory> {
         let told = self.live.world.told().len();
         let clients = self.live.world.clients().len();
         let client = usize::from(self.dice.roll()) % clients.max(1);
         let event = match self.dice.roll() % 8 {
-            0 => {
-                let mut words = Vec::new(alloc);
-                for _ in 0..4 {
-                    words.push(u32::from(self.dice.roll()))?;
-                }
-                ClientEvent::Join { words, window: 2 }
-            }
+            0 => return self.joins(alloc),
             1 | 2 => ClientEvent::Ask(client),
             3 => ClientEvent::AskAgain(client),
             4..=6 => ClientEvent::Answer {
@@ -268,10 +313,10 @@ impl LiveList {
             1..=3 => self.begins(alloc),
             4..=7 => self.asks(alloc),
             8..=13 => self.rounds(alloc),
-            14..=22 => self.keeps(alloc),
-            23..=26 => self.releases(alloc),
-            27 => self.grants(alloc),
-            28 => self.brings(alloc),
+            14..=23 => self.keeps(alloc),
+            24..=27 => self.releases(alloc),
+            28 => self.grants(alloc),
+            29 => self.brings(alloc),
             _ => self.talks(alloc),
         }
     }

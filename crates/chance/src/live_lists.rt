@@ -25,20 +25,20 @@ static SAYS_ALL: &[u8] =
 /// What at least happens.
 static LEAST: &[(usize, u64)] = &[
     (LISTS, MANY),
-    (ROUNDS, 1),
-    (TAKEN, 1),
-    (LOGGED, 1),
-    (CUT_SHORT, 1),
-    (SAID, 1),
-    (HANDED, 1),
-    (CRASHES, 1),
-    (ASKED, 1),
-    (GRANTS, 1),
-    (REFUSED_GRANTS, 1),
-    (TOLD, 1),
-    (LATE_TOLD, 1),
-    (HEARD, 1),
-    (PRINTED, 1),
+    (ROUNDS, 90_000),
+    (TAKEN, 100_000),
+    (LOGGED, 90_000),
+    (CUT_SHORT, 50_000),
+    (SAID, 60_000),
+    (HANDED, 6_000),
+    (CRASHES, 14_000),
+    (ASKED, 40_000),
+    (GRANTS, 14_000),
+    (REFUSED_GRANTS, 8_000),
+    (TOLD, 6_000),
+    (LATE_TOLD, 100),
+    (HEARD, 22_000),
+    (PRINTED, 5_000),
 ];
 
 /// Whether the promises are kept behind each event of the list. Where memory is refused to one, nothing or a part of it happened, and the list goes on.
@@ -67,6 +67,7 @@ fn keeps_in(
     let need = dice.roll() % keepers + 1;
     let mut list = LiveList::new(alloc, image, seed, keepers, need)?;
     let _live = list.live.begins(alloc);
+    let _joined = list.joins(alloc);
     let kept = keeps_on(alloc, &mut list);
     tally.add_list(&list.tally);
     Ok(kept)

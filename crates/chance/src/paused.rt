@@ -10,8 +10,12 @@ use std::alloc::Global;
 use std::test::Fail;
 use wire::Answer;
 
-/// lui x1, f0000; lw x2, 0(x1), the input word; sw x2, 8(x1), an output; then back to the load.
-const SAYS_EACH_WORD: &[u8] = b"harts 1\npages 1\nf00000b7\n0000a103\n0020a423\nff9ff06f\n";
+/// lui x1, f0000; lui x6, 1; srli x6, x6, 1; then again and again sw x6, 12(x1), which clears the word's interrupt; lw x2, 0(x1), the input word;
+/// sw x2, 8(x1), an output; and back.
+const SAYS_EACH_WORD: &[u8] = b"harts 1\npages 1\nf00000b7\n00001337\n00135313\n0060a623\n0000a103\n0020a423\nff5ff06f\n";
+
+/// How many steps an act goes on: a word is said behind three.
+const STEPS: u64 = 2;
 
 /// What happens to three keepers, of whom two have to hold what goes out, and what comes of it.
 static EVENTS: [(Act, Outcome); 42] = [
@@ -65,7 +69,7 @@ static EVENTS: [(Act, Outcome); 42] = [
 ];
 
 /// What was told: the term, the number, the step, and the word.
-const OUT: [(u32, u64, u64, u32); 3] = [(1, 0, 2, 7), (2, 0, 2, 7), (2, 1, 5, 9)];
+const OUT: [(u32, u64, u64, u32); 3] = [(1, 0, 5, 7), (2, 0, 5, 7), (2, 1, 9, 9)];
 
 /// The number of the first event of which something else comes, or how many there are.
 fn done(alloc: Global, live: &mut Live) -> Result<usize, Memory> {
@@ -98,7 +102,7 @@ fn is_told(told: &[Answer]) -> bool {
 
 /// How many events went as they should, and whether what should be was told.
 fn told(alloc: Global, image: &Image) -> Result<(usize, bool), Memory> {
-    let mut live = Live::new(alloc, image, 3, 2)?;
+    let mut live = Live::new(alloc, image, 3, 2, STEPS)?;
     let _begun = live.begins(alloc)?;
     let done = done(alloc, &mut live)?;
     Ok((done, live.keeps_promises() && is_told(live.world.told())))

@@ -280,7 +280,7 @@ fn comes_of(
 /// Whether processes keep the rule: that comes of the act against it which is to come, and what was told is kept.
 fn is_kept(alloc: Global, image: &Image, row: Row) -> Result<bool, Memory> {
     let (_, _, acts, place, instead) = row;
-    let mut live = Live::new(alloc, image, 2, 1)?;
+    let mut live = Live::new(alloc, image, 2, 1, 1)?;
     let begun = live.begins(alloc)?;
     let outcome = comes_of(alloc, &mut live, acts, place)?;
     Ok(begun && outcome == Some(instead) && live.keeps_promises())
