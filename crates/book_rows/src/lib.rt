@@ -19,8 +19,6 @@ mod guests;
 #[cfg(test)]
 mod heard;
 #[cfg(test)]
-mod keepers;
-#[cfg(test)]
 mod lent;
 #[cfg(test)]
 mod live;

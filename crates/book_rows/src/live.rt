@@ -2,8 +2,7 @@
 
 use crate::guests::BOTH_COUNT_ALOUD;
 use crate::rows::Edge;
-use fenced_keeper::Given;
-use fenced_live::{GivenFault, go_live_given};
+use fenced_live::{Given, GivenFault, go_live_given};
 use fixtures::{HALTS, TWO_LOOPS, edge, hart, image_of, key, opening_of, piece_of};
 use fragment_codec::{Frame, Record};
 use ft_types::{Count, Counts, Guest, Keeper, Memory, Term};

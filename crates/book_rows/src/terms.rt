@@ -1,6 +1,6 @@
 //! A primary of three keepers, of which two must hold an output, over a guest that says each word that it is given.
 
-use fenced_keeper::Given;
+use fenced_live::Given;
 use fragment_codec::{Frame, write_frame};
 use ft_types::{Count, Guest, Hart, Keeper, Memory, MemorySink, Output, Quorum, Term};
 use guest_image::{Image, read_image};

@@ -6,7 +6,7 @@ use closed_cut::{Position, chain, position};
 use fixtures::guest_with;
 use fragment_codec::Frame;
 use ft_types::{Count, Memory, Term};
-use log_join::{Put, Store, StoreFault};
+use log_join::{Put, Store, StoreFault, joins_of_stores};
 use std::alloc::Global;
 use std::result::Result;
 use std::test::Fail;
@@ -357,6 +357,7 @@ fn go_on(alloc: Global) -> Result<bool, Fail> {
 
 #[test]
 fn joins(rt: HostRuntime) -> Result<(), Fail> {
+    joins_of_stores();
     assert!(rt; go_on(rt.alloc())? && are_joined_often(rt.alloc())?);
     Ok(())
 }

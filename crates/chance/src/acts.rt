@@ -3,15 +3,13 @@
 ghost use Rattle.std.specs.Prelude.{◌<◌, ◌≤◌, IfOk};
 ghost use Rattle.ft_types.specs.declared.names.TheConstants.{HART_LIMIT};
 ghost use Rattle.scripts.specs.Coming.{MayCome};
-ghost use Rattle.fenced_world.specs.Happenings.{MayCome as MayHappen};
 
 use failover_world::Event;
-use fenced_world::FencedEvent;
 use ft_types::{Hart, Memory, Term};
 use input_log::Input;
 use std::alloc::Global;
 
-/// An event of either world, with the keepers of a grant in a list. A hart is named by any number, of which the remainder by the
+/// An event, with the keepers of a grant in a list. A hart is named by any number, of which the remainder by the
 /// number of harts counts. Where primaries stop, the term is that of the one that runs.
 #[derive(Clone, Copy)]
 pub enum Act {
@@ -60,33 +58,5 @@ pub fn event_of(alloc: Global, act: Act, harts: u8) -> Result<Event, Memory>
             keepers: Vec::from_slice(alloc, keepers)?,
         },
         Act::Save(_) | Act::Restart(_) | Act::Fence(..) => return Err(Memory),
-    })
-}
-
-/// The event where nobody stops a primary, for a guest of so many harts. `Memory` for a stop: none falls there.
-pub fn fenced_event_of(alloc: Global, act: Act, harts: u8) -> Result<FencedEvent, Memory>
-    requires { (0 < harts) × (harts ≤ HART_LIMIT) }
-    ensures { IfOk result (λ event. MayHappen harts event) }
-{
-    Ok(match act {
-        Act::Step(term, hart) => FencedEvent::Step(term, hart_of(hart, harts)),
-        Act::Timer(term, hart) => FencedEvent::Offer(term, hart_of(hart, harts), Input::Timer),
-        Act::Word(term, hart, word) => {
-            FencedEvent::Offer(term, hart_of(hart, harts), Input::Word(word))
-        }
-        Act::Seal(term) => FencedEvent::Seal(term),
-        Act::Release(term) => FencedEvent::Release(term),
-        Act::Deliver(keeper, frame) => FencedEvent::Deliver { keeper, frame },
-        Act::Join(keeper, other) => FencedEvent::Join { keeper, other },
-        Act::Save(keeper) => FencedEvent::Save(keeper),
-        Act::Restart(keeper) => FencedEvent::Restart(keeper),
-        Act::Fence(keeper, term) => FencedEvent::Fence { keeper, term },
-        Act::Ack(keeper) => FencedEvent::Acknowledge(keeper),
-        Act::Lose(keeper) => FencedEvent::Lose(keeper),
-        Act::Grant(term, keepers) => FencedEvent::Grant {
-            term,
-            keepers: Vec::from_slice(alloc, keepers)?,
-        },
-        Act::Stop(_) => return Err(Memory),
     })
 }

@@ -4,10 +4,12 @@ ghost use Rattle.std.specs.Prelude.{◌<◌, ◌≤◌};
 
 use crate::acts::Act;
 use crate::keeper::Rules;
+use crate::outcome::Outcome;
 use crate::plain::PlainWorld;
 use crate::subject::Subject;
 use crate::tally::Tally;
-use fenced_world::{FencedFault, Released};
+use crate::fault::PlainFault;
+use primary::Released;
 use fragment_codec::Frame;
 use ft_types::{Memory, Term};
 use go_live::LiveFault;
@@ -15,23 +17,6 @@ use guest_image::{Image, Machine};
 use log_join::{Put, Store};
 use output_gate::Output;
 use std::alloc::Global;
-
-/// What comes of an act in both worlds.
-#[derive(Clone, Copy, PartialEq, Eq)]
-pub enum Outcome {
-    /// It is done.
-    Done,
-    /// It is a release that lets nothing out.
-    NothingGoesOut,
-    /// It is refused by a fence.
-    Fenced,
-    /// It is a grant from too few stores.
-    TooFewStores,
-    /// It is refused otherwise.
-    Refused,
-    /// The worlds answer it unlike, or not the same went out.
-    Unlike,
-}
 
 /// A world, a plain one to which the same happens, and what happened.
 #[derive(Drop)]
@@ -41,19 +26,11 @@ pub struct Beside {
     pub tally: Tally,
 }
 
-/// What happened to a world that answered so: a keeper whose memory is refused as it comes back is lost.
-fn as_seen(act: Act, answer: Result<(), FencedFault>) -> (Act, Result<(), FencedFault>) {
-    match (act, answer) {
-        (Act::Restart(keeper), Err(FencedFault::Memory)) => (Act::Lose(keeper), Ok(())),
-        _ => (act, answer),
-    }
-}
-
 /// What comes of an act that is answered so, by which something went out or not.
-fn outcome_of(act: Act, answer: Result<(), FencedFault>, released: bool) -> Outcome {
+fn outcome_of(act: Act, answer: Result<(), PlainFault>, released: bool) -> Outcome {
     match (act, answer) {
-        (_, Err(FencedFault::Fenced)) => Outcome::Fenced,
-        (_, Err(FencedFault::Live(LiveFault::TooFewStores))) => Outcome::TooFewStores,
+        (_, Err(PlainFault::Fenced)) => Outcome::Fenced,
+        (_, Err(PlainFault::Live(LiveFault::TooFewStores))) => Outcome::TooFewStores,
         (_, Err(_)) => Outcome::Refused,
         (Act::Release(_), Ok(())) if !released => Outcome::NothingGoesOut,
         _ => Outcome::Done,
@@ -87,14 +64,13 @@ impl Beside {
     pub fn new(
         alloc: Global,
         image: &Image,
-        rules: Rules,
         keepers: u8,
         need: u8,
     ) -> Result<Beside, Memory>
         requires { (0 < need) × (need ≤ keepers) × (keepers ≤ 5) }
     {
-        let plain = PlainWorld::new(alloc, image, rules, keepers, need)?;
-        let subject = Subject::new(alloc, image, rules, keepers, need)?;
+        let plain = PlainWorld::new(alloc, image, Rules::Stopping, keepers, need)?;
+        let subject = Subject::new(alloc, image, keepers, need)?;
         Ok(Beside {
             subject,
             plain,
@@ -123,25 +99,9 @@ impl Beside {
         self.plain.primaries.len() == self.subject.granted()
     }
 
-    /// Whether the act was of a term below one that was granted.
-    fn is_late(&self, act: Act) -> bool {
-        let term = match (act, self.plain.acknowledged.last()) {
-            (Act::Step(term, _) | Act::Release(term), _) => term,
-            (Act::Ack(_), Some(last)) => last.term,
-            _ => return false,
-        };
-        term < self.plain.greatest_term()
-    }
-
     /// Whether the same went out.
     fn released_the_same(&self) -> bool {
         self.subject.released() == self.plain.released.as_slice()
-    }
-
-    /// Counts what came of the act in both worlds.
-    fn count(&mut self, act: Act, answer: Result<(), FencedFault>, released: bool) {
-        let late = self.is_late(act);
-        self.tally.count(act, answer, late, released);
     }
 
     /// Applies the act to both worlds: what comes of it.
@@ -150,15 +110,14 @@ impl Beside {
         let Some(answer) = self.subject.answer(alloc, act, term) else {
             return Ok(Outcome::Unlike);
         };
-        let (act, answer) = as_seen(act, answer);
         let before = self.plain.released.len();
         let wanted = self.plain.apply(alloc, act);
-        if wanted == Err(FencedFault::Memory) {
+        if wanted == Err(PlainFault::Memory) {
             return Err(Memory);
         }
         let released = self.plain.released.len() > before;
         let same = answer == wanted && self.released_the_same();
-        self.count(act, wanted, released);
+        self.tally.count(act, wanted);
         Ok(if same {
             outcome_of(act, answer, released)
         } else {

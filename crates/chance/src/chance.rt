@@ -3,10 +3,8 @@
 ghost use Rattle.std.specs.Prelude.{◌<◌, ◌≤◌};
 
 use crate::acts::Act;
-use crate::keeper::Rules;
 use crate::plain::PlainWorld;
 use fixtures::{BOTH_STORE, Dice, HALTS, RING_EACH_OTHER, SAYS_ITS_WORD};
-use ft_types::Term;
 
 /// lui x1, f0000; then again and again sw x2, 8(x1), an output; addi x2, x2, 1; and back: two harts that count aloud.
 static COUNT_ALOUD: &[u8] = b"harts 2\npages 1\nf00000b7\n0020a423\n00110113\nff9ff06f\n";
@@ -15,19 +13,14 @@ static COUNT_ALOUD: &[u8] = b"harts 2\npages 1\nf00000b7\n0020a423\n00110113\nff
 /// say which of them came first.
 static TAKE_TURNS: &[u8] = b"harts 2\npages 2\n800010b7\nf0000237\n0010a12f\n00222423\nff9ff06f\n";
 
-/// lui x1, f0000; then again and again lw x2, 0(x1), the input word; sw x2, 8(x1), an output; and back: it says what it was told, so
-/// that two primaries say two words.
-static ECHO: &[u8] = b"harts 1\npages 1\nf00000b7\n0000a103\n0020a423\nff9ff06f\n";
-
 /// The guest of a list's number.
-pub fn guest(rules: Rules, number: u64) -> &'static [u8] {
-    match (rules, number % 10) {
-        (_, 0) => HALTS,
-        (Rules::Stopping, 1) => SAYS_ITS_WORD,
-        (Rules::Stopping, 2) => RING_EACH_OTHER,
-        (Rules::Stopping, 3) => BOTH_STORE,
-        (_, 1..=3) => ECHO,
-        (_, 4..=6) => COUNT_ALOUD,
+pub fn guest(number: u64) -> &'static [u8] {
+    match number % 10 {
+        0 => HALTS,
+        1 => SAYS_ITS_WORD,
+        2 => RING_EACH_OTHER,
+        3 => BOTH_STORE,
+        4..=6 => COUNT_ALOUD,
         _ => TAKE_TURNS,
     }
 }
@@ -85,35 +78,8 @@ fn grant(dice: &mut Dice, world: &PlainWorld) -> Act {
     Act::Grant(term, keepers)
 }
 
-/// A term that was granted, or seldom one that was not.
-fn term_of(dice: &mut Dice, world: &PlainWorld) -> Term {
-    let roll = dice.roll();
-    match roll % 64 {
-        0 => world.greatest_term().saturating_add(1),
-        1..=12 => world.greatest_term(),
-        _ => world.term_at(usize::from(dice.roll()) % world.primaries.len().max(1)),
-    }
-}
-
-/// An event that is seldom, where nobody stops a primary.
-fn seldom_beside(dice: &mut Dice, world: &PlainWorld) -> Act {
-    let roll = dice.roll() % 16;
-    let keeper = number_to(dice, u64::from(world.keepers));
-    let term = term_of(dice, world);
-    match roll {
-        0 => Act::Lose(keeper),
-        1..=3 => grant(dice, world),
-        4 | 5 => Act::Timer(term, dice.roll()),
-        6 => Act::Word(term, dice.roll(), u32::from(dice.roll())),
-        7 | 8 => Act::Join(keeper, number_to(dice, u64::from(world.keepers))),
-        9 | 10 => Act::Fence(keeper, term),
-        11 => Act::Fence(keeper, world.greatest_term().saturating_add(1)),
-        _ => Act::Restart(keeper),
-    }
-}
-
-/// The same, where primaries stop.
-fn seldom_after(dice: &mut Dice, world: &PlainWorld) -> Act {
+/// An event that is seldom.
+fn seldom(dice: &mut Dice, world: &PlainWorld) -> Act {
     let roll = dice.roll() % 8;
     let keeper = number_to(dice, u64::from(world.keepers));
     let term = world.greatest_term();
@@ -127,7 +93,7 @@ fn seldom_after(dice: &mut Dice, world: &PlainWorld) -> Act {
     }
 }
 
-/// What any keeper does, where primaries stop: the first frame that it lacks comes, or any frame, or it acknowledges.
+/// What any keeper does: the first frame that it lacks comes, or any frame, or it acknowledges.
 fn keeping(dice: &mut Dice, world: &PlainWorld) -> Act {
     let keeper = number_to(dice, u64::from(world.keepers));
     match (world.first_missing(keeper), dice.roll() % 16) {
@@ -144,28 +110,14 @@ enum Mood {
     Steps,
     /// What they did is sealed.
     Seals,
-    /// Keepers take frames, write them down and acknowledge.
+    /// Keepers take frames and acknowledge.
     Keeps,
-    /// A term is granted.
-    Grants,
     /// Outputs go out.
     Releases,
 }
 
-/// The mood after this one, where nobody stops a primary.
-fn after_beside(mood: Mood, roll: u8) -> Mood {
-    match (mood, roll % 16) {
-        (Mood::Steps, 0..=2) => Mood::Seals,
-        (Mood::Seals, _) => Mood::Keeps,
-        (Mood::Grants, 0..=3) => Mood::Keeps,
-        (Mood::Grants, _) => Mood::Releases,
-        (Mood::Releases, _) => Mood::Steps,
-        _ => mood,
-    }
-}
-
-/// The same, where primaries stop.
-fn after_stopping(mood: Mood, roll: u8) -> Mood {
+/// The mood after this one.
+fn after(mood: Mood, roll: u8) -> Mood {
     match (mood, roll % 8) {
         (Mood::Steps, 0 | 4) => Mood::Seals,
         (Mood::Seals, _) => Mood::Keeps,
@@ -180,10 +132,6 @@ fn after_stopping(mood: Mood, roll: u8) -> Mood {
 pub struct Chance {
     dice: Dice,
     mood: Mood,
-    /// Whose primary it is about for a while.
-    term: Term,
-    /// The keeper that it is about for a while.
-    keeper: u64,
 }
 
 impl Chance {
@@ -192,8 +140,6 @@ impl Chance {
         Chance {
             dice: Dice::new(seed),
             mood: Mood::Steps,
-            term: 1,
-            keeper: 0,
         }
     }
 
@@ -205,79 +151,21 @@ impl Chance {
         self.dice.roll() % limit + 1
     }
 
-    /// The keeper acknowledges. It is about the next one then, or about something else.
-    fn acknowledge(&mut self, world: &PlainWorld) -> Act {
-        let keeper = self.keeper;
-        self.keeper = keeper.wrapping_add(1) % u64::from(world.keepers).max(1);
-        self.mood = match self.dice.roll() % 4 {
-            0 => Mood::Grants,
-            1 => Mood::Releases,
-            _ => Mood::Keeps,
-        };
-        Act::Ack(keeper)
-    }
-
-    /// What a keeper does: the first frame that it lacks comes; or it writes down what came, and acknowledges that. Seldom any frame
-    /// comes to any keeper, or any acknowledges.
-    fn keep(&mut self, world: &PlainWorld) -> Act {
-        let any = number_to(&mut self.dice, u64::from(world.keepers));
-        let keeper = self.keeper;
-        match (world.first_missing(keeper), self.dice.roll() % 16) {
-            (_, 0) => Act::Deliver(any, number_to(&mut self.dice, world.sent.len() as u64)),
-            (_, 1 | 2) => Act::Ack(any),
-            (Some(frame), 3..=14) => Act::Deliver(keeper, frame),
-            _ if !world.has_saved(keeper) => Act::Save(keeper),
-            _ => self.acknowledge(world),
-        }
-    }
-
-    /// Outputs of the term go out, and it is about another term then.
-    fn release(&mut self, world: &PlainWorld) -> Act {
-        let term = self.term;
-        self.term = term_of(&mut self.dice, world);
-        Act::Release(term)
-    }
-
-    /// What fits the mood, which may change then, where nobody stops a primary.
-    fn fitting_beside(&mut self, world: &PlainWorld) -> Act {
-        let mood = self.mood;
-        self.mood = after_beside(mood, self.dice.roll());
-        match mood {
-            Mood::Steps => Act::Step(self.term, self.dice.roll()),
-            Mood::Seals => Act::Seal(self.term),
-            Mood::Keeps => self.keep(world),
-            Mood::Grants => grant(&mut self.dice, world),
-            Mood::Releases => self.release(world),
-        }
-    }
-
-    /// The same, where primaries stop.
-    fn fitting_after(&mut self, world: &PlainWorld) -> Act {
+    /// What fits the mood, which may change then.
+    fn fitting(&mut self, world: &PlainWorld) -> Act {
         let term = world.greatest_term();
         let mood = self.mood;
-        self.mood = after_stopping(mood, self.dice.roll());
+        self.mood = after(mood, self.dice.roll());
         match mood {
             Mood::Steps => Act::Step(term, self.dice.roll()),
             Mood::Seals => Act::Seal(term),
-            Mood::Keeps | Mood::Grants => keeping(&mut self.dice, world),
+            Mood::Keeps => keeping(&mut self.dice, world),
             Mood::Releases => Act::Release(term),
         }
     }
 
-    /// What happens next where nobody stops a primary.
-    fn next_beside(&mut self, world: &PlainWorld) -> Act {
-        match self.dice.roll() % 64 {
-            0 => Act::Step(term_of(&mut self.dice, world), self.dice.roll()),
-            1 => Act::Seal(term_of(&mut self.dice, world)),
-            2..=4 => Act::Release(term_of(&mut self.dice, world)),
-            5 => self.keep(world),
-            6..=11 => seldom_beside(&mut self.dice, world),
-            _ => self.fitting_beside(world),
-        }
-    }
-
-    /// What happens next where primaries stop.
-    fn next_after(&mut self, world: &PlainWorld) -> Act {
+    /// What happens next.
+    pub fn next(&mut self, world: &PlainWorld) -> Act {
         let term = world.greatest_term();
         if world.machine(term).is_none() && self.dice.roll() % 4 != 0 {
             self.mood = Mood::Keeps;
@@ -288,16 +176,8 @@ impl Chance {
             1 => Act::Seal(term),
             2 => Act::Release(term),
             3 => keeping(&mut self.dice, world),
-            4..=8 => seldom_after(&mut self.dice, world),
-            _ => self.fitting_after(world),
-        }
-    }
-
-    /// What happens next.
-    pub fn next(&mut self, world: &PlainWorld) -> Act {
-        match world.rules {
-            Rules::Stopping => self.next_after(world),
-            _ => self.next_beside(world),
+            4..=8 => seldom(&mut self.dice, world),
+            _ => self.fitting(world),
         }
     }
 }

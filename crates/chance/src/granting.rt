@@ -4,7 +4,7 @@ use crate::keeper::Rules;
 use crate::plain::PlainWorld;
 use crate::plain_primary::PlainPrimary;
 use closed_cut::{Position, position};
-use fenced_world::FencedFault;
+use crate::fault::PlainFault;
 use fragment_codec::{Frame, Opening};
 use ft_types::{Memory, Term};
 use go_live::LiveFault;
@@ -107,33 +107,33 @@ impl PlainWorld {
     }
 
     /// Why the term is not granted to a primary that begins with what these keepers have, where primaries stop, if it is not.
-    fn why_not_after(&self, term: Term, keepers: &[u64]) -> Option<FencedFault> {
+    fn why_not_after(&self, term: Term, keepers: &[u64]) -> Option<PlainFault> {
         let last = self.greatest_term();
         if self.lacks_one(keepers) {
-            Some(FencedFault::NoKeeper)
+            Some(PlainFault::NoKeeper)
         } else if self.machine(last).is_some() {
-            Some(FencedFault::Fenced)
+            Some(PlainFault::Fenced)
         } else if !self.are_enough(keepers) {
-            Some(FencedFault::Live(LiveFault::TooFewStores))
+            Some(PlainFault::Live(LiveFault::TooFewStores))
         } else if term <= last {
-            Some(FencedFault::Live(LiveFault::TermNotNew))
+            Some(PlainFault::Live(LiveFault::TermNotNew))
         } else {
             None
         }
     }
 
     /// Why it is not granted to one that begins with what they give, where nobody stops a primary, if it is not.
-    fn why_not_beside(&self, term: Term, keepers: &[u64]) -> Option<FencedFault> {
+    fn why_not_beside(&self, term: Term, keepers: &[u64]) -> Option<PlainFault> {
         if self.lacks_one(keepers) {
-            Some(FencedFault::NoKeeper)
+            Some(PlainFault::NoKeeper)
         } else if self.primary(term).is_some() {
-            Some(FencedFault::Live(LiveFault::TermNotNew))
+            Some(PlainFault::Live(LiveFault::TermNotNew))
         } else if self.one_gave_later(keepers, term) {
-            Some(FencedFault::Fenced)
+            Some(PlainFault::Fenced)
         } else if !self.are_enough(keepers) {
-            Some(FencedFault::Live(LiveFault::TooFewStores))
+            Some(PlainFault::Live(LiveFault::TooFewStores))
         } else if self.one_knows_later(keepers, term) {
-            Some(FencedFault::Live(LiveFault::TermNotNew))
+            Some(PlainFault::Live(LiveFault::TermNotNew))
         } else {
             None
         }
@@ -179,7 +179,7 @@ impl PlainWorld {
     }
 
     /// A primary goes live in the term from what these keepers give.
-    pub fn grant(&mut self, alloc: Global, term: Term, keepers: &[u64]) -> Result<(), FencedFault> {
+    pub fn grant(&mut self, alloc: Global, term: Term, keepers: &[u64]) -> Result<(), PlainFault> {
         let fault = match self.rules {
             Rules::Stopping => self.why_not_after(term, keepers),
             _ => self.why_not_beside(term, keepers),

@@ -1,6 +1,6 @@
-//! What falls by chance, beside plain ones: lists of events for the worlds in which primaries stop and in which nobody stops them,
-//! guests and calls for what a primary records, for audits of it, and for primaries that fail and go live. And for each rule of fencing
-//! a list by which a plain world without it lets out two words of one number.
+//! What falls by chance: lists of events beside a plain world, and to processes, which keep what was told; guests and calls for what a primary records, for
+//! audits of it, and for primaries that fail and go live. And for each rule of fencing a list by which a plain world without it lets out two words of one
+//! number, and processes don't.
 #![tactic(auto)]
 
 #[cfg(test)]
@@ -20,11 +20,23 @@ mod changes;
 #[cfg(test)]
 mod failures;
 #[cfg(test)]
+mod fault;
+#[cfg(test)]
 mod granting;
 #[cfg(test)]
 mod keeper;
 #[cfg(test)]
 mod lists;
+#[cfg(test)]
+mod live;
+#[cfg(test)]
+mod live_chance;
+#[cfg(test)]
+mod live_lists;
+#[cfg(test)]
+mod live_tally;
+#[cfg(test)]
+mod outcome;
 #[cfg(test)]
 mod paused;
 #[cfg(test)]

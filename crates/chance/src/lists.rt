@@ -1,12 +1,10 @@
-//! Ten thousand lists of 60 events that fall by chance, beside a plain world: of primaries that stop, and of primaries that nobody
-//! stops, of which several run at once.
+//! Ten thousand lists of 60 events that fall by chance, beside a plain world.
 
-use crate::beside::{Beside, Outcome};
+use crate::beside::Beside;
 use crate::chance::{Chance, guest};
-use crate::keeper::Rules;
+use crate::outcome::Outcome;
 use crate::tally::{
-    ACKNOWLEDGED, AGAIN, DELIVERIES, FENCED, GRANTS, LATE_ACKNOWLEDGED, LATE_RELEASES, LATE_STEPS,
-    LISTS, REFUSED, RELEASED, RELEASES, RESTARTS, SPREAD, STEPS, Tally,
+    ACKNOWLEDGED, AGAIN, DELIVERIES, GRANTS, LISTS, REFUSED, RELEASED, SPREAD, STEPS, Tally,
 };
 use fixtures::image_of;
 use ft_types::Memory;
@@ -20,7 +18,7 @@ const EVENTS: u64 = 60;
 /// How many lists there are.
 const MANY: u64 = 10_000;
 
-/// What at least happens where primaries stop.
+/// What at least happens.
 static LEAST: &[(usize, u64)] = &[
     (LISTS, MANY),
     (STEPS, 100_000),
@@ -31,21 +29,6 @@ static LEAST: &[(usize, u64)] = &[
     (RELEASED, 6_800),
     (AGAIN, 240),
     (SPREAD, 200),
-];
-
-/// What at least happens where nobody stops them.
-static LEAST_FENCED: &[(usize, u64)] = &[
-    (LISTS, MANY),
-    (STEPS, 120_000),
-    (LATE_STEPS, 20_000),
-    (ACKNOWLEDGED, 40_000),
-    (LATE_ACKNOWLEDGED, 300),
-    (RESTARTS, 8_000),
-    (GRANTS, 8_000),
-    (FENCED, 16_000),
-    (REFUSED, 44_000),
-    (RELEASES, 6_000),
-    (LATE_RELEASES, 1_500),
 ];
 
 /// Applies a list of events to two worlds. Says whether they agree at each, and have the same machines after each tenth.
@@ -71,32 +54,21 @@ fn agree_to_the_end(
 }
 
 /// Two worlds of a few keepers, to which nothing happened.
-fn begin(
-    alloc: Global,
-    image: &Image,
-    rules: Rules,
-    chance: &mut Chance,
-) -> Result<Beside, Memory> {
-    let least = if matches!(rules, Rules::Stopping) {
-        1
-    } else {
-        2
-    };
-    let keepers = chance.number(5).min(chance.number(5).max(least));
+fn begin(alloc: Global, image: &Image, chance: &mut Chance) -> Result<Beside, Memory> {
+    let keepers = chance.number(5).min(chance.number(5));
     let need = chance.number(keepers);
-    Beside::new(alloc, image, rules, keepers, need)
+    Beside::new(alloc, image, keepers, need)
 }
 
 /// Applies the list of this number to two worlds. Says whether they agree, and adds what happened.
 fn agree_by(
     alloc: Global,
     image: &Image,
-    rules: Rules,
     number: u64,
     tally: &mut Tally,
 ) -> Result<bool, Memory> {
     let mut chance = Chance::new(number.wrapping_mul(0x9e37_79b9_7f4a_7c15) | 1);
-    let mut worlds = begin(alloc, image, rules, &mut chance)?;
+    let mut worlds = begin(alloc, image, &mut chance)?;
     let agreed = agree_to_the_end(alloc, image, &mut chance, &mut worlds);
     if agreed == Ok(true) {
         tally.add_list(&worlds.tally, worlds.subject.released());
@@ -105,18 +77,18 @@ fn agree_by(
 }
 
 /// The same, once more where the plain world was refused memory.
-fn agree_in(alloc: Global, rules: Rules, number: u64, tally: &mut Tally) -> Result<bool, Fail> {
-    let image = image_of(alloc, guest(rules, number))?;
-    match agree_by(alloc, &image, rules, number, tally) {
-        Err(Memory) => Ok(agree_by(alloc, &image, rules, number, tally)?),
+fn agree_in(alloc: Global, number: u64, tally: &mut Tally) -> Result<bool, Fail> {
+    let image = image_of(alloc, guest(number))?;
+    match agree_by(alloc, &image, number, tally) {
+        Err(Memory) => Ok(agree_by(alloc, &image, number, tally)?),
         agreed => Ok(agreed?),
     }
 }
 
 /// The number of the first list in which the worlds differ. What happened in those before it is added.
-fn first_difference(alloc: Global, rules: Rules, tally: &mut Tally) -> Result<Option<u64>, Fail> {
+fn first_difference(alloc: Global, tally: &mut Tally) -> Result<Option<u64>, Fail> {
     for number in 0..MANY {
-        if !agree_in(alloc, rules, number, tally)? {
+        if !agree_in(alloc, number, tally)? {
             return Ok(Some(number));
         }
     }
@@ -126,21 +98,7 @@ fn first_difference(alloc: Global, rules: Rules, tally: &mut Tally) -> Result<Op
 #[test]
 fn worlds_agree_on_lists_by_chance(rt: HostRuntime) -> Result<(), Fail> {
     let mut tally = Tally::new();
-    assert_eq!(rt;
-        first_difference(rt.alloc(), Rules::Stopping, &mut tally)?,
-        None
-    );
+    assert_eq!(rt; first_difference(rt.alloc(), &mut tally)?, None);
     assert!(rt; tally.reaches(LEAST));
-    Ok(())
-}
-
-#[test]
-fn fenced_worlds_agree_on_lists_by_chance(rt: HostRuntime) -> Result<(), Fail> {
-    let mut tally = Tally::new();
-    assert_eq!(rt;
-        first_difference(rt.alloc(), Rules::Fencing, &mut tally)?,
-        None
-    );
-    assert!(rt; tally.reaches(LEAST_FENCED));
     Ok(())
 }

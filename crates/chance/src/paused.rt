@@ -1,17 +1,21 @@
 //! A primary that was only paused, and comes back once a later term was granted: what it knows to be held goes out, and nothing that it does then.
 
 use crate::acts::Act;
-use crate::beside::{Beside, Outcome};
-use crate::keeper::Rules;
-use fenced_world::Released;
+use crate::live::Live;
+use crate::outcome::Outcome;
 use fixtures::image_of;
 use ft_types::Memory;
 use guest_image::Image;
 use std::alloc::Global;
 use std::test::Fail;
+use wire::Answer;
 
-/// lui x1, f0000; lw x2, 0(x1), the input word; sw x2, 8(x1), an output; then back to the load.
-const SAYS_EACH_WORD: &[u8] = b"harts 1\npages 1\nf00000b7\n0000a103\n0020a423\nff9ff06f\n";
+/// lui x1, f0000; lui x6, 1; srli x6, x6, 1; then again and again sw x6, 12(x1), which clears the word's interrupt; lw x2, 0(x1), the input word;
+/// sw x2, 8(x1), an output; and back.
+const SAYS_EACH_WORD: &[u8] = b"harts 1\npages 1\nf00000b7\n00001337\n00135313\n0060a623\n0000a103\n0020a423\nff5ff06f\n";
+
+/// How many steps an act goes on: a word is said behind three.
+const STEPS: u64 = 2;
 
 /// What happens to three keepers, of whom two have to hold what goes out, and what comes of it.
 static EVENTS: [(Act, Outcome); 42] = [
@@ -64,14 +68,14 @@ static EVENTS: [(Act, Outcome); 42] = [
     (Act::Release(1), Outcome::NothingGoesOut),
 ];
 
-/// What went out: the term, the number, the step, and the word.
-const OUT: [(u32, u64, u64, u32); 3] = [(1, 0, 2, 7), (2, 0, 2, 7), (2, 1, 5, 9)];
+/// What was told: the term, the number, the step, and the word.
+const OUT: [(u32, u64, u64, u32); 3] = [(1, 0, 5, 7), (2, 0, 5, 7), (2, 1, 9, 9)];
 
 /// The number of the first event of which something else comes, or how many there are.
-fn done(alloc: Global, worlds: &mut Beside) -> Result<usize, Memory> {
+fn done(alloc: Global, live: &mut Live) -> Result<usize, Memory> {
     let mut number = 0usize;
     for (act, outcome) in &EVENTS {
-        if worlds.answer(alloc, *act)? != *outcome {
+        if live.act(alloc, *act)? != *outcome {
             return Ok(number);
         }
         number = number.saturating_add(1);
@@ -79,10 +83,10 @@ fn done(alloc: Global, worlds: &mut Beside) -> Result<usize, Memory> {
     Ok(number)
 }
 
-/// Whether this went out.
-fn is_out(released: &[Released]) -> bool {
+/// Whether this was told.
+fn is_told(told: &[Answer]) -> bool {
     let mut place = 0usize;
-    for one in released {
+    for one in told {
         let Some((term, number, step, word)) = OUT.get(place) else {
             return false;
         };
@@ -96,14 +100,12 @@ fn is_out(released: &[Released]) -> bool {
     place == OUT.len()
 }
 
-/// How many events went as they should, and whether both worlds let out what they should.
+/// How many events went as they should, and whether what should be was told.
 fn told(alloc: Global, image: &Image) -> Result<(usize, bool), Memory> {
-    let mut worlds = Beside::new(alloc, image, Rules::Fencing, 3, 2)?;
-    let done = done(alloc, &mut worlds)?;
-    Ok((
-        done,
-        worlds.have_same_machines() && is_out(&worlds.plain.released),
-    ))
+    let mut live = Live::new(alloc, image, 3, 2, STEPS)?;
+    let _begun = live.begins(alloc)?;
+    let done = done(alloc, &mut live)?;
+    Ok((done, live.keeps_promises() && is_told(live.world.told())))
 }
 
 /// The same, once more where memory was refused.

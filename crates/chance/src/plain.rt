@@ -6,7 +6,8 @@ use crate::keeper::{PlainKeeper, Rules};
 use crate::plain_primary::PlainPrimary;
 use ack_core::AckFault;
 use closed_cut::{Position, position};
-use fenced_world::{FencedFault, Released};
+use crate::fault::PlainFault;
+use primary::Released;
 use fragment_codec::{Frame, Opening};
 use ft_types::{Count, Counts, HART_LIMIT, HART_ROW, Hart, Memory, Term};
 use guest_image::{Image, Machine};
@@ -138,28 +139,28 @@ impl PlainWorld {
     }
 
     /// The term's primary, if that runs.
-    pub fn running(&mut self, term: Term) -> Result<&mut PlainPrimary, FencedFault> {
+    pub fn running(&mut self, term: Term) -> Result<&mut PlainPrimary, PlainFault> {
         for primary in &mut self.primaries {
             if primary.opening.term() == term && !primary.stopped {
                 return Ok(primary);
             }
         }
-        Err(FencedFault::NoPrimary)
+        Err(PlainFault::NoPrimary)
     }
 
     /// The keeper of this number, where there is one that is not lost.
-    pub fn keeper(&self, number: u64) -> Result<&PlainKeeper, FencedFault> {
+    pub fn keeper(&self, number: u64) -> Result<&PlainKeeper, PlainFault> {
         match self.held.get(number as usize) {
             Some(keeper) if !keeper.lost => Ok(keeper),
-            _ => Err(FencedFault::NoKeeper),
+            _ => Err(PlainFault::NoKeeper),
         }
     }
 
     /// The same, to which something happens.
-    fn keeper_mut(&mut self, number: u64) -> Result<&mut PlainKeeper, FencedFault> {
+    fn keeper_mut(&mut self, number: u64) -> Result<&mut PlainKeeper, PlainFault> {
         match self.held.get_mut(number as usize) {
             Some(keeper) if !keeper.lost => Ok(keeper),
-            _ => Err(FencedFault::NoKeeper),
+            _ => Err(PlainFault::NoKeeper),
         }
     }
 
@@ -184,23 +185,23 @@ impl PlainWorld {
         }
     }
 
-    fn deliver(&mut self, number: u64, frame: u64) -> Result<(), FencedFault> {
+    fn deliver(&mut self, number: u64, frame: u64) -> Result<(), PlainFault> {
         let frames = self.sent.len() as u64;
         let keeper = self.keeper_mut(number)?;
         if frame >= frames {
-            return Err(FencedFault::NoFrame);
+            return Err(PlainFault::NoFrame);
         }
         Ok(keeper.take(&[frame])?)
     }
 
-    fn join(&mut self, alloc: Global, number: u64, other: u64) -> Result<(), FencedFault> {
+    fn join(&mut self, alloc: Global, number: u64, other: u64) -> Result<(), PlainFault> {
         match self.keeper(other)?.taken.to_vec(alloc) {
             Ok(frames) => Ok(self.keeper_mut(number)?.take(&frames)?),
-            Err(_) => Err(FencedFault::Memory),
+            Err(_) => Err(PlainFault::Memory),
         }
     }
 
-    fn lose(&mut self, number: u64) -> Result<(), FencedFault> {
+    fn lose(&mut self, number: u64) -> Result<(), PlainFault> {
         self.keeper_mut(number)?.lost = true;
         Ok(())
     }
@@ -213,11 +214,11 @@ impl PlainWorld {
         }
     }
 
-    fn fence(&mut self, alloc: Global, number: u64, term: Term) -> Result<(), FencedFault> {
+    fn fence(&mut self, alloc: Global, number: u64, term: Term) -> Result<(), PlainFault> {
         let rules = self.rules;
         let keeper = self.keeper_mut(number)?;
         if keeper.gave_later(term) {
-            return Err(FencedFault::Fenced);
+            return Err(PlainFault::Fenced);
         }
         Ok(keeper.fence(alloc, term, rules)?)
     }
@@ -240,28 +241,28 @@ impl PlainWorld {
     }
 
     /// Why no gate counts a position of the term, if none does.
-    fn why_no_gate(&self, term: Term) -> Option<FencedFault> {
+    fn why_no_gate(&self, term: Term) -> Option<PlainFault> {
         if self.primary(term).is_none() {
-            Some(FencedFault::NoPrimary)
+            Some(PlainFault::NoPrimary)
         } else {
             None
         }
     }
 
     /// Why the keeper acknowledges no position of the term, if it does not.
-    fn why_not_acknowledged(&self, keeper: &PlainKeeper, term: Term) -> Option<FencedFault> {
+    fn why_not_acknowledged(&self, keeper: &PlainKeeper, term: Term) -> Option<PlainFault> {
         match self.rules {
             Rules::Stopping if term != self.greatest_term() => {
-                Some(FencedFault::Ack(AckFault::OtherTerm))
+                Some(PlainFault::Ack(AckFault::OtherTerm))
             }
             Rules::Stopping => None,
             Rules::NoFence => self.why_no_gate(term),
-            _ if keeper.gave_later(term) => Some(FencedFault::Fenced),
+            _ if keeper.gave_later(term) => Some(PlainFault::Fenced),
             _ => self.why_no_gate(term),
         }
     }
 
-    fn acknowledge(&mut self, alloc: Global, number: u64) -> Result<(), FencedFault> {
+    fn acknowledge(&mut self, alloc: Global, number: u64) -> Result<(), PlainFault> {
         let keeper = self.keeper(number)?;
         let position = self.position_of(alloc, keeper.acknowledged(self.rules))?;
         if let Some(fault) = self.why_not_acknowledged(keeper, position.term) {
@@ -274,13 +275,13 @@ impl PlainWorld {
         })
     }
 
-    fn add_acknowledged(&mut self, one: Acknowledged) -> Result<(), FencedFault> {
+    fn add_acknowledged(&mut self, one: Acknowledged) -> Result<(), PlainFault> {
         if self.acknowledged_more(&one) {
-            return Err(FencedFault::Ack(AckFault::Lower));
+            return Err(PlainFault::Ack(AckFault::Lower));
         }
         match self.acknowledged.push(one) {
             Ok(()) => Ok(()),
-            Err(_) => Err(FencedFault::Memory),
+            Err(_) => Err(PlainFault::Memory),
         }
     }
 
@@ -323,17 +324,17 @@ impl PlainWorld {
         many
     }
 
-    fn seal(&mut self, alloc: Global, term: Term) -> Result<(), FencedFault> {
+    fn seal(&mut self, alloc: Global, term: Term) -> Result<(), PlainFault> {
         let guest = self.image.guest();
         let mut pieces = self.running(term)?.seal(alloc, guest)?;
         match self.sent.append(&mut pieces) {
             Ok(()) => Ok(()),
-            Err(_) => Err(FencedFault::Memory),
+            Err(_) => Err(PlainFault::Memory),
         }
     }
 
     /// The term's primary does this, if it runs.
-    fn lead(&mut self, alloc: Global, term: Term, act: Act) -> Result<(), FencedFault> {
+    fn lead(&mut self, alloc: Global, term: Term, act: Act) -> Result<(), PlainFault> {
         let harts = self.image.harts();
         let primary = self.running(term)?;
         match act {
@@ -348,7 +349,7 @@ impl PlainWorld {
     }
 
     /// Does what the act says, or says why not.
-    pub fn apply(&mut self, alloc: Global, act: Act) -> Result<(), FencedFault> {
+    pub fn apply(&mut self, alloc: Global, act: Act) -> Result<(), PlainFault> {
         let rules = self.rules;
         match act {
             Act::Step(term, _) | Act::Timer(term, _) | Act::Word(term, _, _) | Act::Stop(term) => {

@@ -2,7 +2,7 @@
 
 use crate::again::{machine_at, one_step};
 use crate::starts::recorder_from;
-use fenced_world::FencedFault;
+use crate::fault::PlainFault;
 use fixtures::cut;
 use fragment_codec::{Frame, Opening};
 use ft_types::{COUNT_LIMIT, Counts, Guest, HART_ROW, Hart, Memory};
@@ -46,14 +46,14 @@ impl PlainPrimary {
     }
 
     /// One step of the hart.
-    pub fn step(&mut self, alloc: Global, hart: Hart) -> Result<(), FencedFault> {
+    pub fn step(&mut self, alloc: Global, hart: Hart) -> Result<(), PlainFault> {
         Ok(one_step(alloc, &mut self.book, hart)?)
     }
 
     /// The input waits behind the others of the hart.
-    pub fn offer(&mut self, hart: Hart, input: Input) -> Result<(), FencedFault> {
+    pub fn offer(&mut self, hart: Hart, input: Input) -> Result<(), PlainFault> {
         if hart.number() >= self.book.machine().harts() || input.is_bell() {
-            return Err(FencedFault::Step(BookFault::Foreign));
+            return Err(PlainFault::Step(BookFault::Foreign));
         }
         Ok(self.book.offer(hart, 0, input)?)
     }

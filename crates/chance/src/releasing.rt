@@ -4,7 +4,8 @@ use crate::keeper::Rules;
 use crate::plain::PlainWorld;
 use crate::plain_primary::Marks;
 use closed_cut::Position;
-use fenced_world::{FencedFault, Released};
+use crate::fault::PlainFault;
+use primary::Released;
 use fragment_codec::{Fragment, Frame, Record};
 use ft_types::{Count, Counts, HART_ROW, Hart, Memory, Term};
 use output_gate::Output;
@@ -83,7 +84,7 @@ impl PlainWorld {
     }
 
     /// Lets those outputs of the hart go out that are due in the term. Where primaries stop, the log notes it.
-    fn release_of(&mut self, alloc: Global, term: Term, hart: Hart) -> Result<(), FencedFault> {
+    fn release_of(&mut self, alloc: Global, term: Term, hart: Hart) -> Result<(), PlainFault> {
         let outputs = self.outputs_of(alloc, term, hart)?;
         let last = self.release_hart(term, hart, &outputs)?;
         if let (Rules::Stopping, Some(last)) = (self.rules, last) {
@@ -93,9 +94,9 @@ impl PlainWorld {
     }
 
     /// Lets those outputs go out that are due in the term.
-    pub fn release(&mut self, alloc: Global, term: Term) -> Result<(), FencedFault> {
+    pub fn release(&mut self, alloc: Global, term: Term) -> Result<(), PlainFault> {
         if self.machine(term).is_none() {
-            return Err(FencedFault::NoPrimary);
+            return Err(PlainFault::NoPrimary);
         }
         for number in 0..self.image.harts() {
             self.release_of(alloc, term, Hart::new(number))?;

@@ -1,11 +1,13 @@
-//! For each rule of fencing a short list of events by which a plain world without it lets out two words of one number. With the rule the
-//! event that would lead there is refused, by the world and by a plain one.
+//! For each rule of fencing a short list of events by which a plain world without it lets out two words of one number. Processes keep the rule: what would
+//! lead there comes to something else, and what was told is kept.
 
 use crate::acts::Act;
-use crate::beside::{Beside, Outcome};
 use crate::keeper::Rules;
+use crate::live::Live;
+use crate::outcome::Outcome;
 use crate::plain::PlainWorld;
-use fenced_world::{FencedFault, Released};
+use crate::fault::PlainFault;
+use primary::Released;
 use fixtures::{SAYS_ITS_WORD, image_of};
 use ft_types::Memory;
 use guest_image::Image;
@@ -191,7 +193,7 @@ static ROWS: [Row; 6] = [
         Rules::Unsaved,
         NOT_WRITTEN_DOWN,
         7,
-        Outcome::Fenced,
+        Outcome::Done,
     ),
     (
         "one keeper more gives its store than may lack an output",
@@ -234,7 +236,7 @@ fn are_two_words(released: &[Released]) -> bool {
 fn does(alloc: Global, world: &mut PlainWorld, act: Act) -> Result<bool, Memory> {
     match world.apply(alloc, act) {
         Ok(()) => Ok(true),
-        Err(FencedFault::Memory) => Err(Memory),
+        Err(PlainFault::Memory) => Err(Memory),
         Err(_) => Ok(false),
     }
 }
@@ -256,40 +258,32 @@ fn breaks_without(alloc: Global, image: &Image, row: Row) -> Result<bool, Memory
     Ok(does_all(alloc, &mut world, acts)? && are_two_words(&world.released))
 }
 
-/// Whether this may come of the event of that number: each one before the place is done, of that at the place this is to come, and those
-/// behind it may be refused, by both worlds.
-fn is_so(number: usize, outcome: Outcome, place: usize, instead: Outcome) -> bool {
-    if number < place {
-        outcome == Outcome::Done
-    } else if number == place {
-        outcome == instead
-    } else {
-        outcome != Outcome::Unlike
-    }
-}
-
-/// Whether both worlds do the events before the one against the rule, of which this comes, and agree to the end.
-fn is_kept_in(alloc: Global, worlds: &mut Beside, row: Row) -> Result<bool, Memory> {
-    let (_, _, acts, place, instead) = row;
+/// What comes of the act at the place, where processes do all that they can of the acts.
+fn comes_of(
+    alloc: Global,
+    live: &mut Live,
+    acts: &[Act],
+    place: usize,
+) -> Result<Option<Outcome>, Memory> {
+    let mut instead = None;
     let mut number = 0usize;
     for act in acts {
-        let outcome = worlds.answer(alloc, *act)?;
-        if !is_so(number, outcome, place, instead) {
-            return Ok(false);
+        let outcome = live.act(alloc, *act)?;
+        if number == place {
+            instead = Some(outcome);
         }
         number = number.saturating_add(1);
     }
-    Ok(true)
+    Ok(instead)
 }
 
-/// The same, and no two words of one number went out then.
+/// Whether processes keep the rule: that comes of the act against it which is to come, and what was told is kept.
 fn is_kept(alloc: Global, image: &Image, row: Row) -> Result<bool, Memory> {
-    let mut worlds = Beside::new(alloc, image, Rules::Fencing, 2, 1)?;
-    Ok(
-        is_kept_in(alloc, &mut worlds, row)?
-            && worlds.have_same_machines()
-            && !are_two_words(&worlds.plain.released),
-    )
+    let (_, _, acts, place, instead) = row;
+    let mut live = Live::new(alloc, image, 2, 1, 1)?;
+    let begun = live.begins(alloc)?;
+    let outcome = comes_of(alloc, &mut live, acts, place)?;
+    Ok(begun && outcome == Some(instead) && live.keeps_promises())
 }
 
 /// Whether the rule is needed, and whether it is kept.

@@ -1,41 +1,30 @@
 //! How often something happened in lists of events.
 
 use crate::acts::Act;
-use fenced_world::{FencedFault, Released};
+use crate::fault::PlainFault;
+use primary::Released;
 
 /// Lists that were applied.
 pub const LISTS: usize = 0;
 /// Steps that were taken.
 pub const STEPS: usize = 1;
-/// Those of a term below one that was granted.
-pub const LATE_STEPS: usize = 2;
 /// Frames that came to keepers.
-pub const DELIVERIES: usize = 3;
+pub const DELIVERIES: usize = 2;
 /// Positions that were acknowledged.
-pub const ACKNOWLEDGED: usize = 4;
-/// Those of a term below one that was granted.
-pub const LATE_ACKNOWLEDGED: usize = 5;
-/// Keepers that came back.
-pub const RESTARTS: usize = 6;
+pub const ACKNOWLEDGED: usize = 3;
 /// Primaries that went live.
-pub const GRANTS: usize = 7;
-/// Events that were refused by a fence, or since a primary still runs.
-pub const FENCED: usize = 8;
+pub const GRANTS: usize = 4;
 /// All events that were refused.
-pub const REFUSED: usize = 9;
-/// Releases of which something went out.
-pub const RELEASES: usize = 10;
-/// Those of a term below one that was granted.
-pub const LATE_RELEASES: usize = 11;
+pub const REFUSED: usize = 5;
 /// Outputs that went out.
-pub const RELEASED: usize = 12;
+pub const RELEASED: usize = 6;
 /// Those that had gone out in an older term.
-pub const AGAIN: usize = 13;
+pub const AGAIN: usize = 7;
 /// Lists in which outputs went out in more than one term.
-pub const SPREAD: usize = 14;
+pub const SPREAD: usize = 8;
 
 /// Of how many kinds there is a number.
-const KINDS: usize = 15;
+const KINDS: usize = 9;
 
 /// How often something happened, of each kind.
 #[derive(Clone, Copy)]
@@ -53,22 +42,15 @@ fn went_out_before(released: &[Released], one: &Released) -> bool {
     false
 }
 
-/// Of which kinds it is what came of an act, which may be late and may have let something out.
-fn kinds_of(
-    act: Act,
-    answer: Result<(), FencedFault>,
-    released: bool,
-) -> (Option<usize>, Option<usize>) {
+/// Of which kind it is what came of an act.
+fn kind_of(act: Act, answer: Result<(), PlainFault>) -> Option<usize> {
     match (act, answer) {
-        (_, Err(FencedFault::Fenced)) => (Some(FENCED), None),
-        (_, Err(_)) => (None, None),
-        (Act::Step(..), Ok(())) => (Some(STEPS), Some(LATE_STEPS)),
-        (Act::Deliver(..), Ok(())) => (Some(DELIVERIES), None),
-        (Act::Ack(_), Ok(())) => (Some(ACKNOWLEDGED), Some(LATE_ACKNOWLEDGED)),
-        (Act::Restart(_), Ok(())) => (Some(RESTARTS), None),
-        (Act::Grant(..), Ok(())) => (Some(GRANTS), None),
-        (Act::Release(_), Ok(())) if released => (Some(RELEASES), Some(LATE_RELEASES)),
-        _ => (None, None),
+        (_, Err(_)) => Some(REFUSED),
+        (Act::Step(..), Ok(())) => Some(STEPS),
+        (Act::Deliver(..), Ok(())) => Some(DELIVERIES),
+        (Act::Ack(_), Ok(())) => Some(ACKNOWLEDGED),
+        (Act::Grant(..), Ok(())) => Some(GRANTS),
+        _ => None,
     }
 }
 
@@ -85,16 +67,11 @@ impl Tally {
         }
     }
 
-    /// Counts what came of an act, which may be late and may have let something out.
-    pub fn count(&mut self, act: Act, answer: Result<(), FencedFault>, late: bool, released: bool) {
-        let (kind, late_kind) = kinds_of(act, answer, released);
-        if let Some(kind) = kind {
+    /// Counts what came of an act.
+    pub fn count(&mut self, act: Act, answer: Result<(), PlainFault>) {
+        if let Some(kind) = kind_of(act, answer) {
             self.add(kind, 1);
         }
-        if let (Some(kind), true) = (late_kind, late) {
-            self.add(kind, 1);
-        }
-        self.add(REFUSED, u64::from(answer.is_err()));
     }
 
     /// Counts outputs that went out in a list.

@@ -6,12 +6,19 @@ ghost use Rattle.ft_types.specs.declared.names.TheConstants.{KEEPER_LIMIT};
 ghost use Rattle.go_live.specs.Quorums.{AreEnough, AreMembers, IsNew, IsOld};
 ghost use Rattle.frame_content.specs.Tests.{same_guest};
 
-use fenced_keeper::Given;
 use ft_types::{Guest, Keeper, KeeperSet, Memory, Term};
 use go_live::suffice;
 use log_join::Store;
 use std::alloc::Global;
 use std::result::Result;
+
+/// A keeper's store, given to a term.
+#[derive(Clone, Copy)]
+pub struct Given<'k> {
+    pub keeper: Keeper,
+    pub term: Term,
+    pub store: &'k Store,
+}
 
 /// Whether all stores were given to this term.
 pub(crate) fn are_to(given: &[Given<'_>], term: Term) -> bool

@@ -6,4 +6,5 @@ mod given;
 mod live;
 
 pub use fault::GivenFault;
+pub use given::Given;
 pub use live::go_live_given;

@@ -18,8 +18,7 @@ ghost use Rattle.go_live.specs.Lives.{IsAtPosition, LeadNowhere};
 ghost use Rattle.fenced_live.specs.Given.{AreTo, IfReplay};
 
 use crate::fault::GivenFault;
-use crate::given::{are_enough, are_of, are_to, is_new, stores_of};
-use fenced_keeper::Given;
+use crate::given::{Given, are_enough, are_of, are_to, is_new, stores_of};
 use ft_types::Term;
 use go_live::{Live, LiveFault, go_live};
 use guest_image::Image;

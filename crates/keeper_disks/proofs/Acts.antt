@@ -14,7 +14,7 @@ use Rattle.fragment_codec.proofs.streams.Splits.{splits_more, alone as one_frame
 use Rattle.log_join.specs.Coming.{IsJoinOf}
 use Rattle.log_join.specs.Stores.{StoreView, IsJoin, alone, nothing}
 use Rattle.closed_cut.specs.Position.{IsPosition}
-use Rattle.fenced_keeper.specs.Keepers.{Acknowledges as MayAcknowledge}
+use Rattle.stations.specs.Stations.{Acknowledges as MayAcknowledge}
 use Rattle.stations.specs.Acts.{Act, Added, CutTo, Fenced as WasFenced, Synced as WasSynced}
 use Rattle.stations.specs.Handshake.{Did, Crash, after, IsBeginning}
 use Rattle.stations.specs.Logs.{IsFrontOf}

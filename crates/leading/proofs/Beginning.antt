@@ -22,7 +22,7 @@ use Rattle.primary.specs.declared.granted.Primary.{Primary}
 use Rattle.primary.proofs.Greatest.{in_limits}
 use Rattle.primary.proofs.Waiting.{all_stay}
 use Rattle.requests.specs.Queues.{QueueView}
-use Rattle.fenced_keeper.specs.declared.keeper.Given.{Given}
+use Rattle.fenced_live.specs.declared.given.Given.{Given}
 use Rattle.fenced_live.specs.Given.{IfReplay}
 use Rattle.fenced_live.specs.declared.fault.GivenFault.{GivenFault}
 use Rattle.fenced_live.specs.declared.fault.GivenFault.TheVariants.{OtherTerm, Live}

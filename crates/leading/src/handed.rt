@@ -9,7 +9,7 @@ ghost use Rattle.log_join.specs.Coming.{IsJoinOf};
 ghost use Rattle.stations.specs.Handing.{IsHandedTo};
 ghost use Rattle.leading.specs.Handed.{IsGiven, IsWhole, IsNotWhole, IsStoreFault, IsPutFault, IsGatherFault};
 
-use fenced_keeper::Given;
+use fenced_live::Given;
 use fragment_codec::{Frame, FrameFault};
 use ft_types::{Guest, Keeper, Memory, Term, first_line};
 use log_join::{Put, Store};

@@ -8,8 +8,7 @@ ghost use Rattle.output_gate.specs.Gates.{mark_at};
 ghost use Rattle.leading.specs.Beginning.{GoesLiveGiven, CannotGoLive};
 
 use crate::fault::LeadFault;
-use fenced_keeper::Given;
-use fenced_live::{GivenFault, go_live_given};
+use fenced_live::{Given, GivenFault, go_live_given};
 use ft_types::{Counts, Hart, Quorum, Term};
 use go_live::{Live, LiveFault};
 use guest_image::Image;

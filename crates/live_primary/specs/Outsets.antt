@@ -11,7 +11,7 @@ use Rattle.log_streams.specs.Stores.{IsStoreText}
 use Rattle.go_live.specs.Joined.{AreJoined}
 use Rattle.term_gate.specs.TermGates.{TermGateView}
 use Rattle.primary.specs.declared.granted.Primary.{Primary}
-use Rattle.fenced_keeper.specs.declared.keeper.Given.{Given}
+use Rattle.fenced_live.specs.declared.given.Given.{Given}
 use Rattle.leading.specs.Beginning.{GoesLiveGiven}
 use Rattle.leading.specs.declared.handed.HandedLog.{HandedLog}
 

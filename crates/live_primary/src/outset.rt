@@ -7,13 +7,13 @@ ghost use Rattle.log_join.specs.Stores.{clashes_of};
 ghost use Rattle.log_streams.specs.Stores.{IsStoreText};
 ghost use Rattle.fragment_codec.specs.declared.frame.Frame.TheVariants.{Opening as OpeningFrame};
 ghost use Rattle.go_live.specs.Joined.{AreJoined};
-ghost use Rattle.fenced_keeper.specs.declared.keeper.Given.{Given as given_of_keeper};
+ghost use Rattle.fenced_live.specs.declared.given.Given.{Given as given_of_keeper};
 ghost use Rattle.leading.specs.Beginning.{GoesLiveGiven};
 ghost use Rattle.live_primary.specs.Outsets.{AreGivenOf, AreSentFirst, SetsOut};
 
 use crate::faults::{clash, handed_fault, image_fault, lead_fault, store_fault};
 use ends::{Fault, Host, NamedFile, Paths, RemovedFile, file_fault, read_file, remove_file};
-use fenced_keeper::Given;
+use fenced_live::Given;
 use fragment_codec::Frame;
 use ft_types::{Guest, Memory, MemorySink};
 use guest_image::{Image, read_image};

@@ -7,7 +7,7 @@ use Rattle.guest_image.specs.Image.{ImageContents, guest_of}
 use Rattle.fragment_codec.specs.declared.frame.Frame.{Frame}
 use Rattle.fragment_codec.specs.Streams.{Splits}
 use Rattle.log_join.specs.Coming.{IsJoinOf}
-use Rattle.fenced_keeper.specs.declared.keeper.Given.{Given}
+use Rattle.fenced_live.specs.declared.given.Given.{Given}
 use Rattle.stations.specs.Handing.{IsHandedTo}
 use Rattle.leading.specs.Beginning.{CannotGoLive}
 use Rattle.leading.specs.Handed.{IsGiven, IsNotWhole}

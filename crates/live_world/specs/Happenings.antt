@@ -7,7 +7,7 @@ use Rattle.fragment_codec.specs.declared.frame.Frame.{Frame}
 use Rattle.fragment_codec.specs.declared.frame.Frame.TheVariants.{Opening}
 use Rattle.log_pieces.specs.Pieces.{IsCut, book_log}
 use Rattle.primary.specs.declared.released.Released.{Released}
-use Rattle.fenced_keeper.specs.declared.keeper.Given.{Given}
+use Rattle.fenced_live.specs.declared.given.Given.{Given}
 use Rattle.leading.specs.Beginning.{GoesLiveGiven}
 use Rattle.leading.specs.Hearing.{Hears, LetsGo, WithNoted}
 use Rattle.leading.specs.Leaders.{LeaderView, BeginBehind}

@@ -4,7 +4,7 @@ ghost use Rattle.std.specs.Prelude.{◌≡◌, ℕ, List, [], ◌∷◌, IfOk, I
 ghost use Rattle.ft_types.specs.Guests.{GuestParts};
 ghost use Rattle.ft_types.specs.declared.quorum.Quorum.{Quorum as quorum_of_specs};
 ghost use Rattle.guest_image.specs.Image.{ImageContents, guest_of};
-ghost use Rattle.fenced_keeper.specs.declared.keeper.Given.{Given as given_of_specs};
+ghost use Rattle.fenced_live.specs.declared.given.Given.{Given as given_of_specs};
 ghost use Rattle.fragment_codec.specs.declared.frame.Frame.TheVariants.{Opening as OpeningFrame};
 ghost use Rattle.leading.specs.Beginning.{GoesLiveGiven};
 ghost use Rattle.live_world.specs.declared.hand.HandedTo.{HandedTo as handed_of_specs};
@@ -14,7 +14,7 @@ ghost use Rattle.live_world.specs.Grants.{AreGivenBy, IsNotLive, HasLogs};
 use crate::fault::EventFault;
 use crate::hand::HandedTo;
 use crate::room::make_room;
-use fenced_keeper::Given;
+use fenced_live::Given;
 use fragment_codec::Frame;
 use ft_types::{Guest, Memory, Quorum, Term};
 use guest_image::Image;

@@ -18,7 +18,7 @@ use Rattle.log_join.proofs.Families.{honest_nothing}
 use Rattle.fenced_theory.specs.Lists.{how_many}
 use Rattle.fenced_theory.specs.Worlds.{HasGiven}
 use Rattle.fenced_theory.proofs.Events.{always}
-use Rattle.fenced_keeper.specs.declared.keeper.Given.{Given}
+use Rattle.fenced_live.specs.declared.given.Given.{Given}
 use Rattle.keeper_disks.specs.Standing.{HasFrames}
 use Rattle.keeper_disks.proofs.Comings.{come_same}
 use Rattle.keeper_disks.proofs.Frames.{whole_one}

@@ -44,7 +44,7 @@ use Rattle.term_gate.specs.TermGates.{acked_at}
 use Rattle.primary.specs.declared.granted.Primary.{Primary}
 use Rattle.primary.specs.Primaries.{BeginsFrom}
 use Rattle.primary.proofs.Waiting.{all_stay}
-use Rattle.fenced_keeper.specs.declared.keeper.Given.{Given}
+use Rattle.fenced_live.specs.declared.given.Given.{Given}
 use Rattle.go_live.specs.Beginnings.{GoesLive, BeginsTerm}
 use Rattle.go_live.proofs.Joins.{joined_below}
 use Rattle.leading.specs.Beginning.{GoesLiveGiven, stores_in, givers_in}

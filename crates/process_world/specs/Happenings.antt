@@ -10,7 +10,7 @@ use Rattle.log_pieces.specs.Pieces.{IsCut, book_log}
 use Rattle.log_join.specs.Coming.{IsJoinOf}
 use Rattle.primary.specs.Gating.{AreAllOffered, OffersMore}
 use Rattle.primary.specs.declared.released.Released.{Released}
-use Rattle.fenced_keeper.specs.declared.keeper.Given.{Given}
+use Rattle.fenced_live.specs.declared.given.Given.{Given}
 use Rattle.keeper_disks.specs.Disks.{Disk, Out, Nothing, Says, Hands, Goes}
 use Rattle.leading.specs.Beginning.{GoesLiveGiven}
 use Rattle.leading.specs.Hearing.{Hears, LetsGo, LetsNothingGo, WithNoted}

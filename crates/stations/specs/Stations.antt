@@ -1,5 +1,5 @@
 -- What a keeper over a log has, and what it acknowledges.
-use Rattle.std.specs.Prelude.{◌≡◌, ◌⊎◌, ◌<◌, max, ℕ, List, [], ◌∷◌, ◌++◌, take, Option, None, Some, option_map}
+use Rattle.std.specs.Prelude.{◌≡◌, ◌⊎◌, ◌<◌, ◌≤◌, max, ℕ, List, [], ◌∷◌, ◌++◌, take, Option, None, Some, option_map}
 use Rattle.ft_types.specs.Guests.{GuestParts}
 use Rattle.ft_types.specs.declared.position.Position.{Position}
 use Rattle.fragment_codec.specs.declared.frame.Frame.{Frame}
@@ -10,7 +10,6 @@ use Rattle.log_join.specs.Stores.{StoreView}
 use Rattle.log_join.specs.declared.answers.Put.{Put}
 use Rattle.log_join.specs.declared.answers.Put.TheVariants.{Clash as Clashes, OtherGuest as Foreign}
 use Rattle.closed_cut.specs.Position.{IsPosition}
-use Rattle.fenced_keeper.specs.Keepers.{Acknowledges}
 use Rattle.wire.specs.declared.acknowledgements.Acknowledgement.{Acknowledgement}
 use Rattle.stations.specs.Acts.{Act, SawLog, CutTo, Added, Synced, SawFence, Failed, Does}
 use Rattle.stations.specs.Logs.{IsFrontOf, HasNoLog}
@@ -41,6 +40,11 @@ abbrev pub IsNotLogged : List ℕ → (List Act → Type 0) → (List Act → Ty
 IsNotLogged fresh old new fault =
     ((front : List ℕ) × (rest : List ℕ) × (fresh ≡ front ++ rest) × Does old new (Added front ∷ Failed fault ∷ [])) ⊎
     (Does old new (Added fresh ∷ Failed fault ∷ []) ⊎ Does old new (Added fresh ∷ Synced ∷ Failed fault ∷ []))
+
+-- the position of what is written down, of no term below the fence
+pub record Acknowledges (written : StoreView) (fence : ℕ) (p : Position) : Type 0 where
+  pub is : IsPosition written p
+  pub above : fence ≤ p.term
 
 -- the store's position is acknowledged, unless its term is 0 or below the fence
 abbrev pub Answers : StoreView → ℕ → Option Position → Type 0

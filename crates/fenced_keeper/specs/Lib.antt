@@ -1,2 +1,0 @@
-pub mod Keepers
-pub mod Following
