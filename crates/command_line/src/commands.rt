@@ -15,8 +15,8 @@ use ft_types::{Sink, Source};
 use guest_image::{Image, read_image};
 use log_join::Store;
 use log_streams::{
-    PairOrders, Pairs, Quorum, Replays, Runs, StreamsFault, cut_streams, frames_of, list_store,
-    read_store, replay_streams, run_primary, write_frames, write_list, write_size,
+    Budget, PairOrders, Pairs, Quorum, Replays, Runs, StreamsFault, cut_streams, frames_of,
+    list_store, read_store, replay_streams, run_primary, write_frames, write_list, write_size,
 };
 use page_book::{Book, Recording};
 use scripts::{Offered, read_events, read_script};
@@ -202,7 +202,7 @@ fn audit_logs<F: Files, W: Sink>(
 fn run_script<F: Files, P: Runs>(
     alloc: Global,
     image: &Image,
-    budget: u32,
+    budget: Budget,
     request: &Request<'_>,
     files: &mut F,
     runs: &P,
@@ -248,7 +248,7 @@ fn write_run<F: Files, W: Sink>(
 fn record<F: Files, P: Runs, W: Sink>(
     alloc: Global,
     image: &Image,
-    budget: u32,
+    budget: Budget,
     request: &Request<'_>,
     files: &mut F,
     runs: &P,

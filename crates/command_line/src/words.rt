@@ -1,12 +1,9 @@
 //! What the words of the command line ask for.
 
-use ft_types::read_number;
-use log_streams::{PairOrders, Quorum};
+use ft_types::{COUNT_LIMIT, read_number};
+use log_streams::{Budget, PairOrders, Quorum};
 use std::alloc::Global;
 use word_forms::{Form, Words, WordsFault, read_form};
-
-/// The number of steps that a run may ask of each hart, at the most.
-const BUDGET_LIMIT: u32 = 1_000_000;
 
 /// A request: something to do with an image.
 #[derive(Drop)]
@@ -33,8 +30,8 @@ pub enum Task<'a> {
     /// Run a primary, and write its frames to a file.
     Run {
         script: &'a str,
-        /// The limit of each hart, 1 to `BUDGET_LIMIT`.
-        budget: u32,
+        /// The limit of each hart, at least 1.
+        budget: Budget,
         made: &'a str,
     },
     /// Run a pair.
@@ -173,9 +170,9 @@ fn number(word: &str) -> Result<u64, WordsFault> {
 }
 
 /// The budget that the word is.
-fn budget(word: &str) -> Result<u32, WordsFault> {
+fn budget_of(word: &str) -> Result<Budget, WordsFault> {
     match read_number(word.as_bytes()) {
-        Some(steps) if steps > 0 && steps <= u64::from(BUDGET_LIMIT) => Ok(steps as u32),
+        Some(steps) if steps > 0 && steps < COUNT_LIMIT => Ok(Budget::new(steps)),
         _ => Err(WordsFault::Usage),
     }
 }
@@ -193,7 +190,7 @@ fn run<'a>(words: &[&'a str]) -> Result<Task<'a>, WordsFault> {
     };
     Ok(Task::Run {
         script,
-        budget: budget(steps)?,
+        budget: budget_of(steps)?,
         made,
     })
 }
@@ -202,7 +199,7 @@ fn pair<'a>(words: &[&'a str], is_warm: bool) -> Result<Task<'a>, WordsFault> {
     let [script, steps, keepers, need] = *words else {
         return Err(WordsFault::Usage);
     };
-    match PairOrders::new(budget(steps)?, number(keepers)?, number(need)?) {
+    match PairOrders::new(budget_of(steps)?, number(keepers)?, number(need)?) {
         Some(orders) => Ok(Task::Pair {
             script,
             orders,

@@ -7,9 +7,10 @@ ghost use Rattle.scripts.specs.Script.{AreOffered};
 ghost use Rattle.log_streams.specs.Primary.{AreOfferedTo, IsFirst, IsReady, IsRunBy, AreFramesOf};
 ghost use Rattle.log_streams.specs.Ends.{ReachItsEnd};
 
+use crate::budget::Budget;
 use crate::runs::Runs;
 use fragment_codec::{FIRST_TERM, Frame, first_opening};
-use ft_types::{Count, Counts, Hart, Memory};
+use ft_types::{Counts, Hart, Memory};
 use guest_image::Image;
 use log_pieces::{Sealed, cut_pieces};
 use page_book::{Book, Recording};
@@ -18,13 +19,13 @@ use scripts::Offered;
 use std::alloc::Global;
 
 /// One limit for all harts.
-fn limits_of(harts: u8, limit: u32) -> Counts
+fn limits_of(harts: u8, limit: Budget) -> Counts
     requires { harts ≤ HART_LIMIT }
     ensures { result ≡ replicate harts limit }
 {
     let mut limits = Counts::zero(harts);
     for number in 0..harts {
-        limits.set(Hart::new(number), Count::from(limit));
+        limits.set(Hart::new(number), limit.steps());
     }
     limits
 }
@@ -46,7 +47,7 @@ pub fn begin_primary(
     alloc: Global,
     image: &Image,
     script: &[Offered],
-    limit: u32,
+    limit: Budget,
 ) -> Result<Primary, Memory>
     requires { AreOffered image.now.harts script.now }
     ensures ready { IfOk result (λ p. IsReady image.now script.now limit p.book) }
@@ -64,7 +65,7 @@ pub fn begin_run(
     alloc: Global,
     image: &Image,
     script: &[Offered],
-    limit: u32,
+    limit: Budget,
 ) -> Result<Book<Recording>, Memory>
     requires { AreOffered image.now.harts script.now }
     ensures { IfOk result (λ b. IsReady image.now script.now limit b) }
@@ -79,7 +80,7 @@ pub fn run_primary<P: Runs>(
     runs: &P,
     image: &Image,
     script: &[Offered],
-    limit: u32,
+    limit: Budget,
 ) -> Result<Book<Recording>, Memory>
     requires may { P.may_run runs.now }
     requires script { AreOffered image.now.harts script.now }

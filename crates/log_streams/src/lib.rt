@@ -2,6 +2,7 @@
 //! primary's run becomes frames. And who replays plans and runs pairs, which the commands are handed.
 #![tactic(auto)]
 
+mod budget;
 mod faults;
 mod first_term;
 mod laws;
@@ -13,6 +14,7 @@ mod runs;
 mod stores;
 mod streams;
 
+pub use budget::Budget;
 pub use faults::StreamsFault;
 pub use first_term::{begin_primary, begin_run, frames_of, run_primary};
 pub use ft_types::Quorum;

@@ -4,6 +4,7 @@ ghost use Rattle.std.specs.Prelude.{◌≡◌, ◌<◌, ◌≤◌, ◌↔◌, Is
 ghost use Rattle.ft_types.specs.declared.names.TheConstants.{KEEPER_LIMIT};
 ghost use Rattle.scripts.specs.Script.{AreOffered};
 
+use crate::budget::Budget;
 use crate::faults::StreamsFault;
 use crate::runs::Runs;
 use ft_types::{Quorum, Sink};
@@ -12,16 +13,16 @@ use scripts::Offered;
 use std::alloc::Global;
 
 /// How far a pair goes, and how many keepers it has.
-#[derive(Clone, Copy, PartialEq, Eq)]
+#[derive(Clone, Copy)]
 pub struct PairOrders {
-    budget: u32,
+    budget: Budget,
     quorum: Quorum,
 }
 
 impl PairOrders {
     /// The orders of a pair whose harts may each go to the budget, with 1 to 5 keepers, of whom 1 to all must hold an output:
     /// `None` for other numbers.
-    pub fn new(budget: u32, keepers: u64, need: u64) -> Option<PairOrders>
+    pub fn new(budget: Budget, keepers: u64, need: u64) -> Option<PairOrders>
         ensures exact { IsSome result ↔ ((0 < need) × (need ≤ keepers) × (keepers ≤ KEEPER_LIMIT)) }
         ensures parts { IfSome result (λ o. (o.budget ≡ budget) × (o.quorum.keepers ≡ keepers) × (o.quorum.need ≡ need)) }
     {
@@ -30,7 +31,7 @@ impl PairOrders {
     }
 
     /// The limit of each hart.
-    pub fn budget(&self) -> u32
+    pub fn budget(&self) -> Budget
         ensures { result ≡ self.now.budget }
     {
         self.budget

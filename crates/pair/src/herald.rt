@@ -8,6 +8,7 @@ use crossbeam_channel::{Receiver, Sender};
 use fragment_codec::Frame;
 use ft_types::{Counts, Memory};
 use hart_threads::{Grant, Overseer};
+use log_streams::Budget;
 use page_book::{Book, Recording};
 use std::alloc::Global;
 use std::mem;
@@ -19,7 +20,7 @@ use std::sync::Wait;
 pub(crate) struct Herald {
     pub(crate) news: News,
     /// The limit of each hart.
-    pub(crate) budget: u32,
+    pub(crate) budget: Budget,
     /// The counts at which was taken what was new the last time.
     pub(crate) taken_at: Counts,
     pub(crate) keepers: Vec<Sender<ToKeeper, Global>>,

@@ -13,6 +13,7 @@ use ack_core::{Board, GateSeat, KeeperSeat};
 use crossbeam_channel::{Receiver, Sender, unbounded};
 use ft_types::Memory;
 use guest_image::Image;
+use log_streams::Budget;
 use output_gate::Gate;
 use primary::Primary;
 use std::alloc::Global;
@@ -50,7 +51,7 @@ pub(crate) struct Watch {
 pub(crate) struct PrimaryPost {
     pub(crate) primary: Primary,
     /// The limit of each hart.
-    pub(crate) budget: u32,
+    pub(crate) budget: Budget,
     /// Whom it sends to.
     pub(crate) keepers: Vec<Sender<ToKeeper, Global>>,
     pub(crate) gate: Sender<ToGate, Global>,

@@ -4,7 +4,8 @@ ghost use Rattle.std.specs.Prelude.{◌≡◌, length};
 ghost use Rattle.ft_types.specs.Counts.{IsWithin};
 ghost use Rattle.pair.specs.Rounds.{AreRoundsFrom};
 
-use ft_types::{Count, Counts, Hart};
+use ft_types::{Counts, Hart};
+use log_streams::Budget;
 
 /// How many steps a round gives each hart, at the most.
 pub(crate) const ROUND: u64 = 4096;
@@ -33,7 +34,7 @@ pub(crate) fn has_gone_on(before: &Counts, now: &Counts) -> bool {
 }
 
 /// Where so many rounds end that begin at these counts: each hart's is so many times a round's steps further, or the budget where that comes first.
-pub(crate) fn rounds_on(counts: Counts, budget: u32, rounds: u64) -> Counts
+pub(crate) fn rounds_on(counts: Counts, budget: Budget, rounds: u64) -> Counts
     ensures harts { length result ≡ length counts }
     ensures rounds { AreRoundsFrom counts budget rounds result }
     ensures forward { IsWithin counts result }
@@ -43,7 +44,7 @@ pub(crate) fn rounds_on(counts: Counts, budget: u32, rounds: u64) -> Counts
     for number in 0..counts.harts() {
         let hart = Hart::new(number);
         let count = counts.get(hart);
-        let goal = Count::from(budget).min(count.saturating_add(steps));
+        let goal = budget.steps().min(count.saturating_add(steps));
         end.set(hart, count.max(goal));
     }
     end

@@ -4,7 +4,7 @@ use crate::runs::{came_to, left_by, planned};
 use fixtures::image_of;
 use ft_types::Memory;
 use guest_image::Image;
-use log_streams::{Replays, run_primary};
+use log_streams::{Budget, Replays, run_primary};
 use pair::OnThreads;
 use scripts::read_script;
 use std::alloc::Global;
@@ -24,7 +24,7 @@ fn is_replayed<R: Threads + Wait + Sync>(
     rt: &R,
     alloc: Global,
     image: &Image,
-    budget: u32,
+    budget: Budget,
 ) -> Result<bool, Memory> {
     let Ok(script) = read_script(alloc, b"", image.harts()) else {
         return Err(Memory);
@@ -40,7 +40,7 @@ fn is_replayed<R: Threads + Wait + Sync>(
 fn harts_close_and_apart_are_replayed(rt: HostRuntime) -> Result<(), Fail> {
     let adds = image_of(rt.alloc(), ADDS)?;
     let counts = image_of(rt.alloc(), COUNTS)?;
-    assert!(rt; is_replayed(&rt, rt.alloc(), &adds, 1000)?);
-    assert!(rt; is_replayed(&rt, rt.alloc(), &counts, 200_000)?);
+    assert!(rt; is_replayed(&rt, rt.alloc(), &adds, Budget::new(1000))?);
+    assert!(rt; is_replayed(&rt, rt.alloc(), &counts, Budget::new(200_000))?);
     Ok(())
 }

@@ -5,7 +5,7 @@ use fixtures::{Dice, ONE_SHARED_PAGE, image_of};
 use ft_types::Memory;
 use guest_image::Image;
 use log_audit::{AuditFault, audit};
-use log_streams::run_primary;
+use log_streams::{Budget, run_primary};
 use pair::OnThreads;
 use scripts::read_script;
 use std::alloc::Global;
@@ -40,7 +40,7 @@ fn left_on_threads<R: Threads + Wait + Sync>(
     let Ok(script) = read_script(alloc, &text, image.harts()) else {
         return Err(Memory);
     };
-    let book = run_primary(alloc, &OnThreads::new(rt), image, &script, 150)?;
+    let book = run_primary(alloc, &OnThreads::new(rt), image, &script, Budget::new(150))?;
     left_by(alloc, image, book)
 }
 

@@ -10,7 +10,7 @@ use hart_threads::Follower;
 use lease_rounds::run_plain;
 use log_join::Store;
 use log_pieces::Sealed;
-use log_streams::begin_run;
+use log_streams::{Budget, begin_run};
 use page_book::{Book, Recording};
 use std::alloc::Global;
 use std::test::Fail;
@@ -202,7 +202,7 @@ fn add_pieces(
 fn many_pieces(alloc: Global, image: &Image) -> Result<Vec<Frame>, Memory> {
     let mut sealed = Sealed::new(Counts::zero(image.harts()));
     let mut pieces = Vec::new(alloc);
-    let mut book = begin_run(alloc, image, &[], 0)?;
+    let mut book = begin_run(alloc, image, &[], Budget::new(0))?;
     let mut added = Ok(());
     for round in 1..9u64 {
         book = gone_to(alloc, book, round * 40)?;

@@ -5,7 +5,7 @@ use fixtures::image_of;
 use ft_types::{Counts, HART_ROW, Hart, Memory};
 use guest_image::Image;
 use hart_threads::{Grant, Overseer, run_seen};
-use log_streams::begin_run;
+use log_streams::{Budget, begin_run};
 use page_book::{Book, Recording};
 use std::alloc::Global;
 use std::sync::Wait;
@@ -100,7 +100,7 @@ fn run_under<R: Threads + Wait + Sync>(
     image: &Image,
     last: u64,
 ) -> Result<(Book<Recording>, Strides), Memory> {
-    let book = begin_run(alloc, image, &[], 100_000)?;
+    let book = begin_run(alloc, image, &[], Budget::new(100_000))?;
     let limits = book.limits();
     if !book.counts().within(limits) {
         let _machine = book.into_machine();

@@ -4,9 +4,10 @@
 use crate::runs::leads_in_turn;
 use command_line::PairOrders;
 use fixtures::image_of;
-use ft_types::{HART_LIMIT, Hart, Memory};
+use ft_types::{Count, HART_LIMIT, Hart, Memory};
 use guest_image::{Image, Machine};
 use log_join::Store;
+use log_streams::Budget;
 use output_gate::Output;
 use page_book::{Book, Recording};
 use pair::{Held, PairEnd, WarmEnd, run_pair, run_pair_warm};
@@ -16,7 +17,7 @@ use std::test::Fail;
 use std::thread::Threads;
 
 /// No hart of these guests goes so far.
-const BUDGET: u32 = 100_000_000;
+const BUDGET: Count = 100_000_000;
 
 /// Four harts, each of which adds 1 to one word 600 times, and halts.
 const ADDS: &[u8] =
@@ -46,7 +47,7 @@ fn end_of<R: Threads + Wait + Sync>(
     keepers: u64,
     need: u64,
 ) -> Result<PairEnd, Memory> {
-    let Some(orders) = PairOrders::new(BUDGET, keepers, need) else {
+    let Some(orders) = PairOrders::new(Budget::new(BUDGET), keepers, need) else {
         return Err(Memory);
     };
     Ok(run_pair(rt, alloc, image, &[], &orders)?)
@@ -196,7 +197,7 @@ fn goes_on<R: Threads + Wait + Sync>(
     keepers: u64,
     need: u64,
 ) -> Result<bool, Fail> {
-    let Some(orders) = PairOrders::new(BUDGET, keepers, need) else {
+    let Some(orders) = PairOrders::new(Budget::new(BUDGET), keepers, need) else {
         return Ok(false);
     };
     let Ok(end) = run_pair_warm(rt, alloc, image, &[], &orders) else {

@@ -9,6 +9,7 @@ use guest_image::{Image, Machine};
 use hart_replay::{ReplayFault, replay_plain};
 use hart_threads::{Free, replay};
 use log_join::Store;
+use log_streams::Budget;
 use std::alloc::Global;
 use std::sync::Wait;
 use std::test::Fail;
@@ -37,9 +38,9 @@ fn is_replayed<R: Threads + Wait + Sync>(
     have_threads: bool,
 ) -> Result<bool, Memory> {
     let left = if have_threads {
-        on_threads(rt, alloc, image, 100, &Free, HartSet::new())?
+        on_threads(rt, alloc, image, Budget::new(100), &Free, HartSet::new())?
     } else {
-        in_turn(alloc, image, 100)?
+        in_turn(alloc, image, Budget::new(100))?
     };
     if !have_halted(&left.0) {
         return Ok(false);

@@ -7,7 +7,7 @@ use hart_replay::{Plan, ReplayFault, plan, replay_plain};
 use hart_threads::{Free, Turnstile, replay, run_with};
 use lease_rounds::run_plain;
 use log_join::Store;
-use log_streams::{begin_run, frames_of};
+use log_streams::{Budget, begin_run, frames_of};
 use page_book::{Book, Recording};
 use std::alloc::Global;
 use std::sync::Wait;
@@ -45,7 +45,7 @@ fn run_on_threads<R: Threads + Wait + Sync, T: Turnstile + Sync>(
     rt: &R,
     alloc: Global,
     image: &Image,
-    budget: u32,
+    budget: Budget,
     turnstile: &T,
     here: HartSet,
 ) -> Result<Book<Recording>, Memory> {
@@ -66,7 +66,7 @@ pub fn on_threads<R: Threads + Wait + Sync, T: Turnstile + Sync>(
     rt: &R,
     alloc: Global,
     image: &Image,
-    budget: u32,
+    budget: Budget,
     turnstile: &T,
     here: HartSet,
 ) -> Result<Left, Memory> {
@@ -75,7 +75,7 @@ pub fn on_threads<R: Threads + Wait + Sync, T: Turnstile + Sync>(
 }
 
 /// What one leaves whose harts go on in turn.
-pub fn in_turn(alloc: Global, image: &Image, budget: u32) -> Result<Left, Memory> {
+pub fn in_turn(alloc: Global, image: &Image, budget: Budget) -> Result<Left, Memory> {
     match run_plain(alloc, begin_run(alloc, image, &[], budget)?, LEASE_STEPS) {
         Ok(book) => left_by(alloc, image, book),
         Err(_) => Err(Memory),

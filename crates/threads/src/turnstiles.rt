@@ -8,6 +8,7 @@ use ft_types::{Count, Hart, HartSet, Memory, Term};
 use guest_image::Image;
 use hart_threads::Turnstile;
 use log_join::Store;
+use log_streams::Budget;
 use std::alloc::Global;
 use std::sync::Wait;
 use std::sync::atomic::{AtomicU64, Ordering};
@@ -162,7 +163,7 @@ fn run_leads<R: Threads + Wait + Sync>(
     rt: &R,
     alloc: Global,
     image: &Image,
-    budget: u32,
+    budget: Budget,
     watch: &Watch,
 ) -> Result<bool, Memory> {
     let left = on_threads(rt, alloc, image, budget, watch, HartSet::new())?;
@@ -206,7 +207,7 @@ fn replay_leads<R: Threads + Wait + Sync>(
     rt: &R,
     alloc: Global,
     image: &Image,
-    budget: u32,
+    budget: Budget,
     terms: Terms,
     watch: &Watch,
 ) -> Result<bool, Fail> {
@@ -223,7 +224,8 @@ type Row = (&'static [u8], u32, bool, Terms, Seen);
 
 /// Whether that is seen of such a run or replay, and its log leads where it is to.
 fn is_seen<R: Threads + Wait + Sync>(rt: &R, alloc: Global, row: &Row) -> Result<bool, Fail> {
-    let (file, budget, runs, terms, seen) = *row;
+    let (file, steps, runs, terms, seen) = *row;
+    let budget = Budget::new(Count::from(steps));
     let image = image_of(alloc, file)?;
     let watch = Watch::new(image.harts());
     let leads = if runs {

@@ -2,9 +2,10 @@
 
 use crate::runs::{in_turn, leads_in_turn, on_threads};
 use fixtures::{hart, image_of};
-use ft_types::{Hart, HartSet, Memory};
+use ft_types::{Count, Hart, HartSet, Memory};
 use guest_image::{Image, Machine};
 use hart_threads::Free;
+use log_streams::Budget;
 use rv32_hart::HartState;
 use std::alloc::Global;
 use std::sync::Wait;
@@ -12,7 +13,7 @@ use std::test::Fail;
 use std::thread::Threads;
 
 /// More than any hart takes, unless what it waits for does not come.
-const BUDGET: u32 = 1_000_000;
+const BUDGET: Count = 1_000_000;
 
 /// Four harts count to 200 each under one lock, wait until all have, and put the sum out.
 ///
@@ -118,7 +119,7 @@ fn say(hart: &HartState, sum: u64) -> (u64, u32) {
         sum = sum.wrapping_mul(1_000_003).wrapping_add(u64::from(*word));
         last = *word;
     }
-    if !hart.is_halted() || hart.count() >= u64::from(BUDGET) {
+    if !hart.is_halted() || hart.count() >= BUDGET {
         last = 0;
     }
     (sum.wrapping_mul(1_000_003), last)
@@ -137,7 +138,7 @@ fn said_by(machine: &Machine) -> Said {
 
 /// What the guest's harts put out in turn.
 fn said_in_turn(alloc: Global, image: &Image) -> Result<Said, Memory> {
-    let left = in_turn(alloc, image, BUDGET)?;
+    let left = in_turn(alloc, image, Budget::new(BUDGET))?;
     Ok(said_by(&left.0))
 }
 
@@ -148,7 +149,7 @@ fn said_on_threads<R: Threads + Wait + Sync>(
     image: &Image,
     here: HartSet,
 ) -> Result<(Said, bool), Memory> {
-    let left = on_threads(rt, alloc, image, BUDGET, &Free, here)?;
+    let left = on_threads(rt, alloc, image, Budget::new(BUDGET), &Free, here)?;
     let leads = leads_in_turn(alloc, image, &left.1, &left.0)?;
     Ok((said_by(&left.0), leads))
 }
