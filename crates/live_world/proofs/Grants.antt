@@ -6,7 +6,7 @@ use Rattle.ft_types.specs.declared.quorum.Quorum.{Quorum}
 use Rattle.guest_image.specs.Image.{ImageContents, guest_of}
 use Rattle.fragment_codec.specs.declared.frame.Frame.{Frame}
 use Rattle.fragment_codec.specs.declared.frame.Frame.TheVariants.{Opening}
-use Rattle.fenced_keeper.specs.declared.keeper.Given.{Given}
+use Rattle.fenced_live.specs.declared.given.Given.{Given}
 use Rattle.fenced_live.specs.Given.{AreTo}
 use Rattle.leading.specs.Beginning.{GoesLiveGiven}
 use Rattle.leading.specs.Handed.{IsNotWhole}

@@ -7,7 +7,7 @@ use Rattle.ft_types.specs.Guests.{GuestParts}
 use Rattle.ft_types.specs.declared.names.TheConstants.{KEEPER_LIMIT}
 use Rattle.guest_image.specs.Image.{ImageContents, guest_of}
 use Rattle.log_join.specs.Coming.{IsJoinOf}
-use Rattle.fenced_keeper.specs.declared.keeper.Given.{Given}
+use Rattle.fenced_live.specs.declared.given.Given.{Given}
 use Rattle.stations.specs.Handing.{IsHandedTo}
 use Rattle.leading.specs.Handed.{IsGiven, IsNotWhole}
 use Rattle.leading.specs.declared.handed.HandedFault.{HandedFault}
