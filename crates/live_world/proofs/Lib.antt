@@ -5,3 +5,4 @@ pub mod AtSites
 pub mod Telling
 pub mod Seeing
 pub mod Filing
+pub mod AtPlaces
