@@ -36,9 +36,7 @@ pub struct MemoryFiles {
 
 impl Model for MemoryFiles {
     ghost use Rattle.std.specs.Prelude.{◌≤◌, length};
-    ghost use Rattle.stations.specs.Acts.{Added};
-ghost use Rattle.stations.specs.Handshake.{Did, after};
-ghost use Rattle.live_world.specs.Shelves.{ShelfView, files_of, hand_of, read_of};
+    ghost use Rattle.live_world.specs.Shelves.{ShelfView, files_of, hand_of, read_of};
 
     ghost Value = { ShelfView };
 
