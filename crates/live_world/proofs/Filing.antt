@@ -44,11 +44,11 @@ cut_both : (log : List ℕ) (safe size : ℕ) → take (min safe size) (take siz
 cut_both log safe size =
     elim (either_below size safe) [
       | inl below ↦
-        let least : min safe size ≡ size = omega arith in
-        rw (take-take size safe log below) (rw least (take_all size (take size log) (omega (arith, length-take size log))))
+          let least : min safe size ≡ size = omega arith in
+          rw (take-take size safe log below) (rw least (take_all size (take size log) (omega (arith, length-take size log))))
       | inr above ↦
-        let least : min safe size ≡ safe = omega arith in
-        rw (least, take-take safe size log above) (sym (take_all size (take safe log) (omega (arith, length-take safe log))))
+          let least : min safe size ≡ safe = omega arith in
+          rw (least, take-take safe size log above) (sym (take_all size (take safe log) (omega (arith, length-take safe log))))
     ]
 
 pub cut_done : (log cut : List ℕ) (safe size least fence : ℕ) (hand : Hand) (read : Option ReadView) (crashed : Bool) → cut ≡ take size log →
@@ -146,9 +146,11 @@ crash_leaves : (log : List ℕ) (safe size fence : ℕ) (hand : Hand) (read : Op
 crash_leaves log safe size fence hand read crashed above = record {
   left = take size log;
   beginning = (drop size log, sym (take-append-drop size log));
-  safe =
-      (drop safe (take size log), sym (ap (λ (x : List ℕ). x ++ drop safe (take size log)) (sym (take-take safe size log above)) ∙
-      take-append-drop safe (take size log)));
+  safe = (
+    drop safe (take size log),
+    sym (ap (λ (x : List ℕ). x ++ drop safe (take size log)) (sym (take-take safe size log above)) ∙
+        take-append-drop safe (take size log)),
+  );
   rest =
       ap (λ (x : List ℕ). record { files = record { log = take size log; safe = x; fence = fence }; hand = hand; read = read; crashed = true })
       (take-take safe size log above);
