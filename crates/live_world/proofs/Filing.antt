@@ -1,13 +1,13 @@
 -- What a keeper's files in memory are behind what is done with them.
-use Rattle.std.proofs.Common.{◌≡◌, ◌≢◌, ◌⊎◌, ◌++◌, ◌+◌, ◌≤◌, ◌<◌, ℕ, Bool, true, false, min, max, List, [], ◌∷◌, length, take, drop, Option, None, Some, inl, inr, Result, Ok, Err, IfErr, OnOk, OnErr, refl, sym, subst, ap, ◌∙◌, arith, append-nil}
+use Rattle.std.proofs.Common.{◌≡◌, ◌⊎◌, ◌++◌, ◌+◌, ◌≤◌, ℕ, Bool, true, false, min, max, List, [], ◌∷◌, length, take, drop, Option, inl, inr, Result, Ok, Err, IfErr, OnOk, OnErr, refl, sym, subst, ap, ◌∙◌, arith, append-nil}
 use Rattle.std.proofs.lemmas.Bool.{cases_order}
 use Rattle.std.proofs.lemmas.List.{take_all, take-take, take-append-le, take-append-drop, length-take}
 use Rattle.stations.specs.Acts.{Does, Act, SawLog, CutTo, Added, Synced, SawFence, Fenced, Failed}
-use Rattle.stations.specs.Handshake.{Files, Did, Crash, IsBeginning, after}
+use Rattle.stations.specs.Handshake.{Did, after}
 use Rattle.stations.specs.declared.faults.FilesFault.{FilesFault}
 use Rattle.keeper_disks.specs.Disks.{Hand}
-use Rattle.live_world.specs.Passages.{IsDone, IsNothing, IsSeen}
-use Rattle.live_world.specs.Shelves.{ReadView, ShelfView, Besides, Still, Then, Beside, HandDid, Crashed, HandDoes, HasCrashed, files_of}
+use Rattle.live_world.specs.Passages.{IsDone, IsNothing}
+use Rattle.live_world.specs.Shelves.{ReadView, ShelfView, Besides, Still, Then, HandDid, Crashed, HandDoes, HasCrashed, files_of}
 use Rattle.live_world.specs.declared.event.HandAct.{HandAct}
 use Rattle.live_world.specs.declared.fault.EventFault.{EventFault}
 use Rattle.live_world.specs.declared.files.Turn.{Turn}

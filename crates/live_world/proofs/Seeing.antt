@@ -1,5 +1,5 @@
 -- Whoever hands a log over, over what it saw.
-use Rattle.std.proofs.Common.{◌≡◌, ◌≤◌, ◌++◌, ℕ, List, [], ◌∷◌, None, Some, inl, inr, refl, sym, ap, subst, ◌∙◌, append_assoc}
+use Rattle.std.proofs.Common.{◌≡◌, ◌≤◌, ◌++◌, ℕ, List, [], ◌∷◌, None, Some, inl, inr, refl, sym, ap, subst}
 use Rattle.ft_types.specs.Guests.{GuestParts}
 use Rattle.stations.specs.Acts.{Act, SawLog, CutTo, Added, Synced, SawFence, Fenced, Failed, Does}
 use Rattle.stations.specs.Handing.{IsHanded, IsHandedTo, IsNotFenced, IsNotHanded}
@@ -9,7 +9,6 @@ use Rattle.stations.specs.declared.faults.FenceFault.TheVariants.{Files as Files
 use Rattle.stations.specs.declared.faults.LogFault.{LogFault}
 use Rattle.stations.specs.declared.faults.LogFault.TheVariants.{Files, Frame as FrameAt, OtherGuest, Clash}
 use Rattle.live_world.specs.Hands.{HasHanded, IsNotFencedOff, IsNotRead}
-use Rattle.live_world.specs.Shelves.{ReadView}
 use Rattle.live_world.specs.declared.hand.HandedTo.{HandedTo}
 use Rattle.live_world.specs.machinery.Seen.{LeavesSeen, TellsSeen}
 

@@ -1,6 +1,6 @@
 //! A keeper's files in memory: what both processes do with them, and crashes between, is in what they tell.
 
-ghost use Rattle.std.specs.Prelude.{◌≡◌, ◌≤◌, false, true, length, take, None, Some, IfOk, IfErr, IfSome, IfNone, OnOk, OnErr, IsTrue, ◌↔◌};
+ghost use Rattle.std.specs.Prelude.{◌≡◌, false, take, None, Some, IfErr, IfSome, IfNone, OnOk, OnErr};
 ghost use Rattle.stations.specs.Acts.{Added};
 ghost use Rattle.stations.specs.Handshake.{Did, after};
 ghost use Rattle.live_world.specs.Shelves.{ShelfView, Besides, HandDoes, HasCrashed, IsNoTurn, empty_shelf, read_view};
