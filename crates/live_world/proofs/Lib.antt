@@ -4,6 +4,16 @@ pub mod Readings
 pub mod AtDisks
 pub mod Through
 pub mod Steps
+pub mod Leading
 pub mod Disks
 pub mod AtSites
 pub mod Telling
+pub mod Seeing
+pub mod Filing
+pub mod Taking
+pub mod Calling
+pub mod Clients
+pub mod Grants
+pub mod Firsts
+pub mod Logs
+pub mod Lines
