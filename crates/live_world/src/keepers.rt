@@ -24,7 +24,8 @@ fn leave(alloc: Global, site: &mut Site, station: Option<KeeperStation>)
 {
     site.files.end_plan(alloc);
     let crashed = site.files.end_call();
-    site.station = if crashed { None } else { station };
+    let left = if crashed { None } else { station };
+    site.station = left;
 }
 
 /// The keeper begins, or comes back; between its acts this happens.
