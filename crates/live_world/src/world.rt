@@ -97,7 +97,6 @@ impl LiveParts {
         ensures happens { OnOk result (ClientHappens self.old event self.new) }
         ensures refused { IfErr result (ClientRefuses self.old event) }
         ensures left { IfErr result (λ f. ClientLeaves self.old event f self.new) }
-        ensures goes { GoesTo self.old self.new }
     {
         match event {
             ClientEvent::Join { words, window } => self.join(alloc, words, window),
@@ -136,8 +135,7 @@ impl LiveWorld {
     /// Whatever happened, in whatever order: the processes are a world of processes, which keeps all that is promised.
     pub fn promises(&self)
         ensures { (p : ProcessWorld) × Comes self.now.image self.now.quorum.keepers self.now.quorum.need p × IsWorldOf self.now p × KeepsPromises p }
-    {
-    }
+    {}
 
     /// All that keepers said.
     pub fn said(&self) -> &[Acknowledgement]
