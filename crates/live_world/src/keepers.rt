@@ -95,12 +95,7 @@ fn fault_of(fault: FrameFault) -> EventFault
 }
 
 /// The keeper takes the frames of a stream that comes in pieces of so many bytes.
-fn take_stream(
-    alloc: Global,
-    site: &mut Site,
-    stream: &[u8],
-    size: usize,
-) -> Result<(), EventFault>
+fn take_stream(alloc: Global, site: &mut Site, stream: &[u8], size: usize) -> Result<(), EventFault>
     ensures taken { (frames : List LogFrame) → Splits stream.now frames [] → OnOk result (TakesAll frames site.old site.new) }
     ensures some { (frames : List LogFrame) → Splits stream.now frames [] → IfErr result (λ f. TakesNot frames site.old f site.new) }
 {

@@ -49,8 +49,8 @@ returns-in-Err-clause-some c = λ frames all.
     let others = to_come stream frames all front left given c.loop-piece.feed parts follows in
     push_fails frames given others.0 c.args.site.now c.loop-piece.site c.in-Err.fault c.fault_of.result others.1 taken c.fault_of.ensures
     (λ other.
-        let at = c.in-Err.ensures.fault front given follows other in
-        no_fault stream frames all (front ++ piece) behind given at.0 c.in-Err.fault more at.1 at.2)
+    let at = c.in-Err.ensures.fault front given follows other in
+    no_fault stream frames all (front ++ piece) behind given at.0 c.in-Err.fault more at.1 at.2)
 
 pub returns-clause-taken : goal.returns-clause-taken
 returns-clause-taken c = λ frames all.
