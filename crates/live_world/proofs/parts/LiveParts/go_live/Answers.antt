@@ -44,6 +44,6 @@ returns-clause-goes c =
     let live = c.in_ok-leader.ensures in
     call_goes _ c.args.self.now c.self.view_is c.args.term c.deref-2.result.now c.args.numbers.items c.deref-3.result.now leader c.in_ok-leader.opening
     c.deref.result.now c.make_room.new.items.items c.push_reserved-2.new.self.items c.make_room-2.new.items.items c.push_reserved.new.self.items
-    c.deref-2.ensures.value c.deref-3.ensures.value c.deref.ensures.value (λ granted. let no : ◌≡◌ {A = Bool} false true = c.if-is_granted.ensures.1 granted in absurd cc)
+    c.deref-2.ensures.value c.deref-3.ensures.value c.deref.ensures.value (λ granted. let said : ◌≡◌ {A = Bool} false true = c.if-is_granted.ensures.1 granted in absurd cc)
     live.live live.opening live.queues live.released c.in_ok-make_room.ensures.same c.push_reserved-2.ensures.items c.in_ok-make_room-2.ensures.same
     c.push_reserved.ensures.items
