@@ -14,6 +14,6 @@ pub moved : LiveView → ℕ → Site → List Acknowledgement → List HandedTo
 moved v keeper t said handed = record v { sites = slice_set v.sites keeper (Some t); said = v.said ++ said; handed = v.handed ++ handed }
 
 pub at_site : {v : LiveView} {w x : ProcessWorld} {keeper : ℕ} {s t : Site} {said : List Acknowledgement} (handed : List HandedTo) →
-    IsWorldOf v w → site_at v.sites keeper ≡ Some s → GoesAt w keeper (disk_of t) said x → IsAtRest t →
+    IsWorldOf v w → site_at v.sites keeper ≡ Some s → GoesAt w keeper (disk_of t) said x → IsAtRest keeper t →
     ((h : HandedTo) → Contains handed h → IsHandedIn x h) → IsWorldOf (moved v keeper t said handed) x
 at_site handed is there goes rests each = ?

@@ -1,8 +1,17 @@
 pub mod Following
 pub mod Growing
+pub mod Readings
+pub mod AtDisks
+pub mod Through
+pub mod Steps
+pub mod Leading
 pub mod Disks
 pub mod AtSites
 pub mod Telling
+pub mod Seeing
+pub mod Filing
+pub mod Taking
+pub mod Calling
 pub mod Clients
 pub mod Grants
 pub mod Firsts
