@@ -1,6 +1,6 @@
 -- A primary that goes live, as an event of the world of processes.
 use Rattle.std.proofs.Common.{◌≡◌, ◌≢◌, ◌⊎◌, inl, inr, ℕ, zero, suc, ◌<◌, ◌≤◌, List, [], ◌∷◌, ◌++◌, All, Contains, length, slice_get, Some, refl, sym, ap, subst, ◌∙◌, arith}
-use Rattle.std.proofs.lemmas.List.Elements.{All-cons, All-head, All-nil, All-tail, Contains-append_cases, Contains-append_left, Contains-append_right}
+use Rattle.std.proofs.lemmas.List.Elements.{All-cons, All-head, All-nil, All-tail}
 use Rattle.ft_types.specs.Guests.{GuestParts}
 use Rattle.ft_types.specs.declared.quorum.Quorum.{Quorum}
 use Rattle.guest_image.specs.Image.{ImageContents, guest_of}
@@ -30,8 +30,7 @@ use Rattle.live_world.specs.Refusals.{PrimaryRefuses}
 use Rattle.live_world.specs.Seats.{AreSeatsOf, IsGrantedIn, IsSeatOf, term_of}
 use Rattle.live_world.specs.Views.{GoesTo, IsHandedIn, IsWorldOf, LiveView}
 use Rattle.live_world.proofs.Following.{once, goes_nowhere}
-use Rattle.live_world.proofs.Growing.{seats_more}
-use Rattle.live_world.proofs.Clients.{contained}
+use Rattle.live_world.proofs.Growing.{contained, led_on, seats_more, sent_more}
 
 -- ---- that the term was not granted
 
@@ -85,14 +84,6 @@ module _ {v : LiveView} {w : ProcessWorld} (is : IsWorldOf v w) (term : ℕ) whe
 
 -- ---- the event
 
--- both get one frame more
-frames_more : (xs ys more : List Frame) → ((f : Frame) → Contains xs f → Contains ys f) → (f : Frame) → Contains (xs ++ more) f → Contains (ys ++ more) f
-frames_more xs ys more each f has =
-    elim (Contains-append_cases xs more f has) [
-      | inl old ↦ Contains-append_left ys more f (each f old)
-      | inr new ↦ Contains-append_right ys more f new
-    ]
-
 pub live_goes : (v u : LiveView) (term : ℕ) (numbers : List ℕ) → GoesLiveFrom v term numbers u → GoesTo v u
 live_goes v u term numbers goes =
     λ w comes is.
@@ -102,20 +93,9 @@ live_goes v u term numbers goes =
     let event = GoesLiveIn term v.quorum goes.given l (not_granted term is goes.not_granted) (sym is.keepers) (sym is.need)
     (all_handed is term numbers goes.given goes.from goes.live.own)
     (subst (λ (image : ImageContents). GoesLiveGiven image v.quorum term goes.given l.primary l.gate) (sym is.image) goes.live) goes.queues goes.released in
-    let now : IsWorldOf (record v { led = v.led ++ Runs l ∷ []; frames = v.frames ++ opening ∷ [] }) x = record {
-      image = is.image;
-      keepers = is.keepers;
-      need = is.need;
-      disks = is.disks;
-      at_rest = is.at_rest;
-      frames = frames_more v.frames w.frames (opening ∷ []) is.frames;
-      said = is.said;
-      handed = λ h has. let in_w = is.handed h has in record { bytes = in_w.bytes; there = in_w.there; line = in_w.line; named = in_w.named };
-      led = seats_more v.led w.led (Runs l) (led_as l) is.led refl;
-      told = is.told;
-      clients = is.clients;
-      asked = is.asked;
-    } in
+    let now : IsWorldOf (record v { led = v.led ++ Runs l ∷ []; frames = v.frames ++ opening ∷ [] }) x =
+    led_on v w (v.led ++ Runs l ∷ []) (w.led ++ led_as l ∷ []) (v.frames ++ opening ∷ []) (w.frames ++ opening ∷ []) v.told w.told is
+    (seats_more v.led w.led (Runs l) (led_as l) is.led refl) (sent_more v.frames w.frames (opening ∷ []) (opening ∷ []) is.frames (λ f has. has)) is.told in
     (x, once event, subst (λ (u : LiveView). IsWorldOf u x) (sym goes.rest) now)
 
 -- ---- the call
