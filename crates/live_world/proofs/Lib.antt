@@ -18,3 +18,4 @@ pub mod Grants
 pub mod Firsts
 pub mod Logs
 pub mod Lines
+pub mod Talking

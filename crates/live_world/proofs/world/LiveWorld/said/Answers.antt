@@ -17,6 +17,7 @@ use Rattle.live_world.proofs.Grants as m15
 use Rattle.live_world.proofs.Firsts as m16
 use Rattle.live_world.proofs.Logs as m17
 use Rattle.live_world.proofs.Lines as m18
+use Rattle.live_world.proofs.Talking as m19
 use Rattle.live_world.proofs.world.LiveWorld.said.Goals as goal
 
 pub returns : goal.returns
