@@ -3,3 +3,5 @@ pub mod Growing
 pub mod Disks
 pub mod AtSites
 pub mod Telling
+pub mod SiteCalls
+pub mod SiteEvents
