@@ -1,10 +1,11 @@
 -- What files in memory tell is what passed.
-use Rattle.std.proofs.Common.{◌≡◌, ◌++◌, ℕ, Bool, true, false, List, [], ◌∷◌, Option, None, Some, refl, sym, ap, ◌∙◌, append-nil}
+use Rattle.std.proofs.Common.{◌≡◌, ◌++◌, ℕ, Bool, true, false, List, [], ◌∷◌, Option, None, Some, refl, sym, ap, ◌∙◌, append_assoc, append-nil}
 use Rattle.stations.specs.Acts.{Act, SawLog, CutTo, Synced, SawFence, Fenced, Does}
 use Rattle.stations.specs.Handshake.{Files}
+use Rattle.stations.proofs.Does.{does_two}
 use Rattle.keeper_disks.specs.Disks.{Hand, Nobody, Saw, HasFenced}
-use Rattle.live_world.specs.Shelves.{ReadView, ShelfView}
-use Rattle.live_world.specs.Passages.{Passes, Begins}
+use Rattle.live_world.specs.Shelves.{ReadView, ShelfView, Besides, Still, Then}
+use Rattle.live_world.specs.Passages.{IsDone, Passes, Begins, ThenDid, ThenBeside}
 use Rattle.live_world.specs.machinery.Passing.{Tells, standing, hand_told, crash_told, read_told}
 
 -- ---- each part of how files stood can be read off
@@ -62,3 +63,25 @@ told_passed {a} {b} {next} (s, acts, e, passes) =
 
 pub passed : {a b : ShelfView} {next : List Act} → Does (Tells a) (Tells b) next → Passes a next b
 passed {a} {b} {next} does = told_passed (does (standing a) (a, [], sym (append-nil (standing a)), Begins))
+
+-- ---- what is done is told
+
+pub besides_pass : {s t u : ShelfView} {acts : List Act} → Passes s acts t → Besides t u → Passes s acts u
+besides_pass p Still = p
+besides_pass p (Then besides beside) = ThenBeside (besides_pass p besides) beside
+
+told_more : (a m b : ShelfView) (done : List Act) (act : Act) → Besides a m → IsDone m act b → Tells a done → Tells b (done ++ act ∷ [])
+told_more a m b done act besides is (s, acts, e, passes) = (
+  s,
+  acts ++ act ∷ [],
+  ap (λ (l : List Act). l ++ act ∷ []) e ∙ append_assoc (standing s) acts (act ∷ []),
+  ThenDid (besides_pass passes besides) act is,
+)
+
+-- an act behind what happened beside it
+pub tells : {a m b : ShelfView} {act : Act} → Besides a m → IsDone m act b → Does (Tells a) (Tells b) (act ∷ [])
+tells {a} {m} {b} {act} besides is = λ done told. told_more a m b done act besides is told
+
+-- and one more directly behind it
+pub tells_two : {a m n b : ShelfView} {x y : Act} → Besides a m → IsDone m x n → IsDone n y b → Does (Tells a) (Tells b) (x ∷ y ∷ [])
+tells_two {a} {m} {n} {b} {x} {y} besides is then = does_two (Tells a) (Tells n) (Tells b) x y (tells besides is) (tells Still then)

@@ -4,7 +4,6 @@ ghost use Rattle.std.specs.Prelude.{◌≡◌, IfErr, OnOk};
 ghost use Rattle.live_world.specs.declared.event.ClientEvent.TheVariants as on;
 ghost use Rattle.live_world.specs.Happenings.{ClientHappens};
 ghost use Rattle.live_world.specs.Refusals.{ClientRefuses, ClientLeaves};
-ghost use Rattle.live_world.specs.Views.{GoesTo};
 
 use crate::fault::EventFault;
 use crate::parts::LiveParts;
@@ -25,7 +24,6 @@ impl LiveParts {
         ensures happens { OnOk result (ClientHappens self.old (on.Join words window) self.new) }
         ensures refused { IfErr result (ClientRefuses self.old (on.Join words window)) }
         ensures left { IfErr result (λ f. ClientLeaves self.old (on.Join words window) f self.new) }
-        ensures goes { GoesTo self.old self.new }
     {
         make_room(&mut self.clients)?;
         let client = Talk::new(alloc, words, window)?;
@@ -38,7 +36,6 @@ impl LiveParts {
         ensures happens { OnOk result (ClientHappens self.old (on.Want request) self.new) }
         ensures refused { IfErr result (ClientRefuses self.old (on.Want request)) }
         ensures left { IfErr result (λ f. ClientLeaves self.old (on.Want request) f self.new) }
-        ensures goes { GoesTo self.old self.new }
     {
         make_room(&mut self.asked)?;
         self.asked.push_reserved(request);
@@ -50,7 +47,6 @@ impl LiveParts {
         ensures happens { OnOk result (ClientHappens self.old (on.Ask client) self.new) }
         ensures refused { IfErr result (ClientRefuses self.old (on.Ask client)) }
         ensures left { IfErr result (λ f. ClientLeaves self.old (on.Ask client) f self.new) }
-        ensures goes { GoesTo self.old self.new }
     {
         make_room(&mut self.asked)?;
         if client >= self.clients.len() {
@@ -67,7 +63,6 @@ impl LiveParts {
         ensures happens { OnOk result (ClientHappens self.old (on.AskAgain client) self.new) }
         ensures refused { IfErr result (ClientRefuses self.old (on.AskAgain client)) }
         ensures left { IfErr result (λ f. ClientLeaves self.old (on.AskAgain client) f self.new) }
-        ensures goes { GoesTo self.old self.new }
     {
         if client >= self.clients.len() {
             return Err(EventFault::NoClient);
@@ -81,7 +76,6 @@ impl LiveParts {
         ensures happens { OnOk result (ClientHappens self.old (on.Answer client told) self.new) }
         ensures refused { IfErr result (ClientRefuses self.old (on.Answer client told)) }
         ensures left { IfErr result (λ f. ClientLeaves self.old (on.Answer client told) f self.new) }
-        ensures goes { GoesTo self.old self.new }
     {
         if told >= self.told.len() {
             return Err(EventFault::NoneTold);
@@ -100,7 +94,6 @@ impl LiveParts {
         ensures happens { OnOk result (ClientHappens self.old (on.Print client) self.new) }
         ensures refused { IfErr result (ClientRefuses self.old (on.Print client)) }
         ensures left { IfErr result (λ f. ClientLeaves self.old (on.Print client) f self.new) }
-        ensures goes { GoesTo self.old self.new }
     {
         if client >= self.clients.len() {
             return Err(EventFault::NoClient);

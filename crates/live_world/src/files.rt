@@ -6,7 +6,7 @@ ghost use Rattle.live_world.specs.Shelves.{ShelfView, Besides, HandDoes, HasCras
 use crate::event::{HandAct, Meanwhile, Planned};
 use crate::fault::EventFault;
 use crate::hand::{Stage, copy_of, fenced};
-use crate::log_read::LogRead;
+use crate::log_read::{FencePut, LogRead};
 use ft_types::{Memory, Term};
 use stations::{FenceFault, FilesFault, KeeperFiles};
 use std::alloc::Global;
@@ -33,7 +33,9 @@ pub struct MemoryFiles {
 }
 
 impl Model for MemoryFiles {
+    ghost use Rattle.std.specs.Prelude.{◌≤◌, length};
     ghost use Rattle.live_world.specs.Shelves.{ShelfView, files_of, hand_of, read_of};
+    ghost use Rattle.std.specs.Prelude.{◌≤◌, length};
 
     ghost Value = { ShelfView };
 
@@ -125,7 +127,7 @@ impl MemoryFiles {
             Err(FenceFault::Files(_)) => return Err(EventFault::Memory),
         }
         self.fence = self.fence.max(term);
-        self.hand = Stage::HasFenced(last, term);
+        self.hand = Stage::HasFenced(FencePut { last, term });
         Ok(())
     }
 
@@ -135,11 +137,11 @@ impl MemoryFiles {
         ensures err { OnErr result (self.new ≡ self.old) }
         ensures why { IfErr result (IsNoTurn self.old HandAct.Reads) }
     {
-        let Stage::HasFenced(last, term) = self.hand else {
+        let Stage::HasFenced(put) = self.hand else {
             return Err(EventFault::NoTurn);
         };
         let log = copy_of(&self.log)?;
-        self.hand = Stage::HasRead(LogRead { last, term, log });
+        self.hand = Stage::HasRead(LogRead { put, log });
         Ok(())
     }
 
@@ -199,7 +201,10 @@ impl MemoryFiles {
         ensures does { result ≡ Turn.Does → self.new.crashed ≡ false }
     {
         let mut turn = Turn::Does;
-        while let Some(what) = self.next_planned() {
+        for _ in 0..self.plan.len() {
+            let Some(what) = self.next_planned() else {
+                break;
+            };
             match what {
                 Meanwhile::Hand(act) => {
                     let _done = self.hand_does(alloc, act);
@@ -223,7 +228,7 @@ impl MemoryFiles {
         ensures { Besides self.old self.new }
     {
         self.acted = usize::MAX;
-        while self.plan.len() > 0 {
+        for _ in 0..self.plan.len() {
             let _turn = self.come_to_turn(alloc);
         }
     }

@@ -25,7 +25,7 @@ pub(crate) fn empty_sites(alloc: Global, keepers: u8) -> Result<Vec<Option<Site>
     ensures { IfOk result (λ sites. sites.items ≡ replicate keepers (Some empty_site)) }
 {
     let mut sites = Vec::new(alloc);
-    for _ in 0..keepers {
+    for _made in 0..keepers {
         sites.push(Some(Site {
             files: MemoryFiles::new(alloc),
             station: None,

@@ -97,7 +97,6 @@ impl LiveParts {
         ensures happens { OnOk result (ClientHappens self.old event self.new) }
         ensures refused { IfErr result (ClientRefuses self.old event) }
         ensures left { IfErr result (λ f. ClientLeaves self.old event f self.new) }
-        ensures goes { GoesTo self.old self.new }
     {
         match event {
             ClientEvent::Join { words, window } => self.join(alloc, words, window),

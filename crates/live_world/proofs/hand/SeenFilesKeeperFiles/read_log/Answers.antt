@@ -1,0 +1,5 @@
+use Rattle.live_world.proofs.Seeing.{tells_seen}
+use Rattle.live_world.proofs.hand.SeenFilesKeeperFiles.read_log.Goals as goal
+
+pub returns-clause-ok : goal.returns-clause-ok
+returns-clause-ok c = tells_seen _ _ _ _ ?
