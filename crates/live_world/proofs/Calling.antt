@@ -13,15 +13,11 @@ use Rattle.live_world.specs.declared.fault.EventFault.TheVariants as fault
 use Rattle.live_world.specs.declared.site.Site.{Site}
 use Rattle.live_world.specs.Calls.{AreAll, BeginsNot, HasBegun, HasLogged, Leaves, LogsNot}
 use Rattle.live_world.specs.Passages.{Passes, Begins, ThenDid, ThenBeside}
-use Rattle.live_world.specs.Shelves.{ShelfView, Besides, Still, Then}
+use Rattle.live_world.specs.Shelves.{ShelfView}
 use Rattle.live_world.specs.machinery.Passing.{Tells}
 use Rattle.live_world.proofs.Telling.{passed}
 
 -- ---- what passed
-
-pub besides_passed : {s t : ShelfView} → Besides s t → Passes s [] t
-besides_passed Still = Begins
-besides_passed (Then besides beside) = ThenBeside (besides_passed besides) beside
 
 passes_then : {s t u : ShelfView} (xs ys : List Act) → Passes s xs t → Passes t ys u → Passes s (xs ++ ys) u
 passes_then {s} {t} xs _ first Begins = subst (λ (acts : List Act). Passes s acts t) (sym (append-nil xs)) first

@@ -1,4 +1,4 @@
-use Rattle.std.proofs.Common.{◌≡◌, ℕ, max, Some, sym, subst, ◌∙◌}
+use Rattle.std.proofs.Common.{sym, subst, ◌∙◌}
 use Rattle.stations.specs.Acts.{Does}
 use Rattle.stations.specs.Stations.{IsNotLogged, logging}
 use Rattle.live_world.specs.Shelves.{ShelfView}
