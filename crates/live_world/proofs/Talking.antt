@@ -7,7 +7,7 @@ use Rattle.asking.specs.declared.talk.Told.{Told}
 use Rattle.requests.specs.Asking.{asked_again, had, next_of}
 use Rattle.wire.specs.declared.answers.Answer.{Answer}
 use Rattle.wire.specs.declared.requests.Request.{Request}
-use Rattle.live_world.specs.Happenings.{AsksNext, AtTalk, TellsNext}
+use Rattle.live_world.specs.Happenings.{AsksNext, AtTalk, HearsOne, TellsNext}
 use Rattle.live_world.specs.Views.{LiveView}
 
 -- the processes, as a call has them in its hands
@@ -47,6 +47,13 @@ module _ (was v : LiveView) (same : was ≡ v) where
       }, rest ∙ ap (λ (asked : List Request). record was { clients = slice_set was.clients n s; asked = asked }) all
       ∙ ap (λ (all : List TalkView). record was { clients = all; asked = was.asked ++ more }) (sym clients)
       ∙ ap (λ (x : LiveView). record x { clients = u.clients; asked = x.asked ++ more }) same)
+
+  -- it heard an answer that was told, or not
+  pub hears_told : (u : LiveView) (n : ℕ) (t s : TalkView) (k : ℕ) (a : Answer) → n < length was.clients → t ≡ get_or was.clients n t →
+      k < length was.told → a ≡ get_or was.told k a → HearsOne a t s → u ≡ record was { clients = slice_set was.clients n s } →
+      (a : Answer) × (slice_get v.told k ≡ Some a) × AtTalk v n (HearsOne a) u × (u ≡ record v { clients = u.clients })
+  hears_told u n t s k a less is below is_told deed rest =
+      let did = at_talk u n t s (HearsOne a) less is deed rest in (a, told_there k a below is_told, did.0, did.1)
 
   -- it asked once more
   pub asks_again : (n : ℕ) (t : TalkView) (asked more : List Request) → n < length was.clients → t ≡ get_or was.clients n t →
