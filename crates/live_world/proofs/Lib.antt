@@ -8,8 +8,11 @@ pub mod Leading
 pub mod Disks
 pub mod AtSites
 pub mod Telling
+pub mod SiteCalls
+pub mod SiteEvents
 pub mod Seeing
 pub mod Filing
+pub mod AtPlaces
 pub mod Taking
 pub mod Calling
 pub mod Clients
