@@ -1,6 +1,6 @@
 //! What happens to clients, and what anybody asks for.
 
-ghost use Rattle.std.specs.Prelude.{◌≡◌, ◌<◌, ◌^◌, IfErr, OnOk};
+ghost use Rattle.std.specs.Prelude.{◌≡◌, ◌<◌, ◌^◌, ◌-◌, length, take, IfErr, OnOk};
 ghost use Rattle.ft_types.specs.Text.{line};
 ghost use Rattle.ft_types.specs.declared.names.TheConstants.{HART_LIMIT};
 ghost use Rattle.wire.specs.Answers.{answer_text};
@@ -39,6 +39,13 @@ fn line_of(answer: &Answer) -> Line
     let _hart = output.hart.number();
     are_kept(answer.term, output.number, output.step, output.word);
     answer_line(answer)
+}
+
+/// The bytes but the last.
+fn text_of(bytes: &[u8]) -> &[u8]
+    ensures { result.now ≡ take (length bytes.now - 1) bytes.now }
+{
+    &bytes[..bytes.len().saturating_sub(1)]
 }
 
 impl LiveParts {
@@ -113,7 +120,8 @@ impl LiveParts {
         }
         let line = line_of(&self.told[told]);
         let bytes = line.as_slice();
-        let _heard = self.clients[client].hear(&bytes[..bytes.len().saturating_sub(1)]);
+        let text = text_of(bytes);
+        let _heard = self.clients[client].hear(text);
         Ok(())
     }
 

@@ -1,8 +1,9 @@
-use Rattle.std.proofs.Common.{◌≡◌, ◌<◌, length, refl, ap, arith}
+use Rattle.std.proofs.Common.{◌≡◌, ◌<◌, length, refl, ap, arith, ◌∙◌}
+use Rattle.wire.specs.Answers.{answer_text}
 use Rattle.live_world.specs.Happenings.{HearsOne}
 use Rattle.live_world.specs.Views.{LiveView}
-use Rattle.live_world.proofs.Lines.{before_break, hears_one}
-use Rattle.live_world.proofs.Talking.{at_talk, told_there}
+use Rattle.live_world.proofs.Lines.{IsKept, before_break, hears_one}
+use Rattle.live_world.proofs.Talking.{hears_told}
 use Rattle.live_world.proofs.parts.LiveParts.answer.Goals as goal
 
 pub returns-then-client-len-clause-refused : goal.returns-then-client-len-clause-refused
@@ -19,7 +20,9 @@ returns-clause-happens c =
     let s = c.hear-heard.new.self in
     let heard = c.hear-heard.ensures in
     let line = c.line_of-line.ensures in
-    let kept = record { term = line.term; hart = line.hart; number = line.number; step = line.step; word_is = line.word_is } in
-    let deed : HearsOne a t s = hears_one a kept t s c.hear-heard.result _ heard.answer heard.new heard.other heard.stays ? in
-    let did = at_talk _ c.args.self.now c.self.view_is _ c.args.client t s (HearsOne a) less c.index_mut.ensures.value deed refl in
-    (a, told_there _ c.args.self.now c.self.view_is c.args.told a below c.index.ensures, did.0, did.1)
+    let kept : IsKept a = record { term = line.term; hart = line.hart; number = line.number; step = line.step; word_is = line.word_is } in
+    let text : c.text_of-text.result.now ≡ answer_text a =
+    c.text_of-text.ensures ∙ before_break (answer_text a) c.as_slice-bytes.result.now (c.as_slice-bytes.ensures.value ∙ line.text) in
+    let deed : HearsOne a t s =
+    hears_one a kept t s c.hear-heard.result c.text_of-text.result.now heard.answer heard.new heard.other heard.stays text in
+    hears_told _ c.args.self.now c.self.view_is _ c.args.client t s c.args.told a less c.index_mut.ensures.value below c.index.ensures deed refl

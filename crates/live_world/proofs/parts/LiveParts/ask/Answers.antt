@@ -26,11 +26,11 @@ returns-clause-happens c =
           let all : more ≡ option_to_list c.ask.result = ap (λ (r : Option Request). option_to_list r) (sym w.in-Some.is) in
           let asked : w.push_reserved.new.self.items ≡ c.self.inside.asked.items ++ more =
           w.push_reserved.ensures.items ∙ ap (λ (l : List Request). l ++ more) same in
-          (more, asks_more _ c.args.self.now c.self.view_is c.match-ask.self c.args.client t s more (AsksNext more) less c.index_mut.ensures.value
-          (asks_next t s c.ask.result more c.ask.ensures.request c.ask.ensures.sent all) (w.self-is ∙ ?))
+          let did = asks_more _ c.args.self.now c.self.view_is c.match-ask.self c.args.client t s w.push_reserved.new.self.items more (AsksNext more) less
+          c.index_mut.ensures.value (asks_next t s c.ask.result more c.ask.ensures.request c.ask.ensures.sent all) asked w.self-is in (more, did.0, did.1)
       | in_default w ↦
           let all : [] ≡ option_to_list c.ask.result = ap (λ (r : Option Request). option_to_list r) (sym w.in_default.is) in
           let asked : c.make_room.new.items.items ≡ c.self.inside.asked.items ++ [] = same ∙ sym (append-nil c.self.inside.asked.items) in
-          ([], asks_more _ c.args.self.now c.self.view_is c.match-ask.self c.args.client t s [] (AsksNext []) less c.index_mut.ensures.value
-          (asks_next t s c.ask.result [] c.ask.ensures.request c.ask.ensures.sent all) (w.self-is ∙ ?))
+          let did = asks_more _ c.args.self.now c.self.view_is c.match-ask.self c.args.client t s c.make_room.new.items.items [] (AsksNext []) less
+          c.index_mut.ensures.value (asks_next t s c.ask.result [] c.ask.ensures.request c.ask.ensures.sent all) asked w.self-is in ([], did.0, did.1)
     ]
