@@ -12,6 +12,7 @@ pub mod SiteCalls
 pub mod SiteEvents
 pub mod Seeing
 pub mod Filing
+pub mod AtPlaces
 pub mod Taking
 pub mod Calling
 pub mod Clients
@@ -19,3 +20,4 @@ pub mod Grants
 pub mod Firsts
 pub mod Logs
 pub mod Lines
+pub mod Talking

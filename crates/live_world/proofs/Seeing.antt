@@ -74,7 +74,7 @@ not_read guest last now term a b OtherGuest (log, frames, size, does, front, oth
     (frames, size, subst (λ (x : List ℕ). IsFrontOf x frames size None) seen.left.0 front, other)
 not_read guest last now term a b Clash not = not
 
-pub has_handed : (guest : GuestParts) (keeper last now term : ℕ) (a b frames : List ℕ) (handed : HandedTo) →
+has_handed : (guest : GuestParts) (keeper last now term : ℕ) (a b frames : List ℕ) (handed : HandedTo) →
     IsHanded guest (TellsSeen last a) (TellsSeen now b) frames → IsHandedTo guest keeper term frames handed.bytes.items → handed.keeper ≡ keeper →
     handed.term ≡ term → HasHanded guest keeper (record { term = term; log = a }) handed
 has_handed guest keeper last now term a b frames handed is line own at =
@@ -90,3 +90,11 @@ has_handed guest keeper last now term a b frames handed is line own at =
       partial = is.partial;
       line = line;
     }
+
+-- of a log and a term that are those of what was read
+pub has_handed_as : (guest : GuestParts) (keeper last now term at : ℕ) (a log b frames : List ℕ) (handed : HandedTo) → a ≡ log → term ≡ at →
+    IsHanded guest (TellsSeen last a) (TellsSeen now b) frames → IsHandedTo guest keeper term frames handed.bytes.items → handed.keeper ≡ keeper →
+    handed.term ≡ at → HasHanded guest keeper (record { term = at; log = log }) handed
+has_handed_as guest keeper last now term at a log b frames handed same_log same_term is line own of_term =
+    rw (← same_log) (has_handed guest keeper last now at a b frames handed is
+    (subst (λ (n : ℕ). IsHandedTo guest keeper n frames handed.bytes.items) same_term line) own of_term)
