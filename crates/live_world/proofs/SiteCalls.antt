@@ -1,5 +1,5 @@
 -- What calls at a keeper's machine lead to.
-use Rattle.std.proofs.Common.{◌≡◌, ◌⊎◌, inl, inr, ◌<◌, ◌++◌, ℕ, Bool, true, false, List, [], ◌∷◌, Contains, drop, take, Option, None, Some, option_to_list, option_map, if◌then◌else◌, refl, sym, ap, subst, ◌∙◌}
+use Rattle.std.proofs.Common.{◌≡◌, inl, inr, ◌<◌, ◌++◌, ℕ, Bool, true, false, List, [], ◌∷◌, Contains, drop, take, Option, None, Some, option_to_list, option_map, if◌then◌else◌, refl, sym, ap, subst, ◌∙◌}
 use Rattle.std.proofs.lemmas.List.{take-append-drop}
 use Rattle.std.proofs.lemmas.List.Elements.{Contains-append_left, Contains-append_right}
 use Rattle.ft_types.specs.Guests.{GuestParts}
@@ -42,9 +42,11 @@ in_range {A} n m xs x has =
 
 -- ---- what was read is handed over
 
+-- what is handed over, by its parts
 abbrev handed_by : ℕ → ℕ → List ℕ → Handed
 handed_by keeper term bytes = record { keeper = keeper; term = term; bytes = bytes }
 
+-- what is handed over was read there
 pub hands_in : (guest : GuestParts) (x : ProcessWorld) (keeper : ℕ) (t : Site) → guest_of x.image ≡ guest → keeper < KEEPER_LIMIT →
     ReadIn x keeper t.files.read → (one : Option HandedTo) → HandsRead guest keeper t one → (h : HandedTo) → Contains (option_to_list one) h → IsHandedIn x h
 hands_in guest x keeper t same named read None has h at = none_in [] h refl at
@@ -63,6 +65,7 @@ hands_in guest x keeper t same named read (Some handed) (seen, is, has) h at =
 
 -- ---- machines at rest
 
+-- a process is there only where the machine did not crash
 stays_there : (b : Bool) (station : Option StationView) (st : StationView) → (if b then None else station) ≡ Some st → station ≡ Some st
 stays_there true station st is = absurd cc
 stays_there false station st is = is
@@ -76,6 +79,7 @@ leaves_rests keeper s acts station t leaves own = record {
   own = λ st is. own st (stays_there leaves.files.crashed station st (sym (ap (λ (u : Site). u.station) leaves.rest) ∙ is));
 }
 
+-- a machine at rest is so where nothing is read
 unread_rests : (keeper : ℕ) (s : Site) → IsAtRest keeper s → IsAtRest keeper (unread s)
 unread_rests keeper s rests = record { handed = refl; lives = rests.lives; own = rests.own }
 
@@ -91,6 +95,7 @@ takes_one_rests keeper frame s t (st, runs, inl new) rests = record {
 }
 takes_one_rests keeper frame s t (st, runs, inr old) rests = subst (IsAtRest keeper) (sym old.1) rests
 
+-- one frame behind the other
 pub takes_rests : (keeper : ℕ) (frames : List Frame) (s t : Site) → TakesAll frames s t → IsAtRest keeper s → IsAtRest keeper t
 takes_rests keeper [] s t takes rests = subst (IsAtRest keeper) (sym takes) rests
 takes_rests keeper (frame ∷ frames) s t (mid, one, all) rests = takes_rests keeper frames mid t all (takes_one_rests keeper frame s mid one rests)
@@ -102,6 +107,7 @@ begins_not_rests guest keeper s fault.Runs t (runs, same) rests = unread_rests k
 begins_not_rests guest keeper s (fault.Log why) t (away, acts, why_not, leaves) rests = leaves_rests keeper s acts None t leaves (λ st same. absurd cc)
 begins_not_rests guest keeper s _ t not rests = absurd not
 
+-- the same of a log
 logs_not_rests : (keeper : ℕ) (s : Site) (f : EventFault) (t : Site) → LogsNot s f t → IsAtRest keeper s → IsAtRest keeper (unread t)
 logs_not_rests keeper s fault.Rests t (away, same) rests = unread_rests keeper t (subst (IsAtRest keeper) (sym same) rests)
 logs_not_rests keeper s (fault.Files why) t (st, runs, acts, why_not, leaves) rests = leaves_rests keeper s acts None t leaves (λ st same. absurd cc)
@@ -114,6 +120,7 @@ hand_lives (hands.Fences term) old new does = ap (λ (f : ShelfView). f.crashed)
 hand_lives hands.Reads old new does = ap (λ (f : ShelfView). f.crashed) does.2
 hand_lives hands.Ends old new does = ap (λ (f : ShelfView). f.crashed) does
 
+-- so a machine stays at rest
 hand_rests : (keeper : ℕ) (act : HandAct) (s t : Site) → HandDoes act s.files t.files → t.station ≡ s.station → IsAtRest keeper s → IsAtRest keeper (unread t)
 hand_rests keeper act s t does same rests = record {
   handed = refl;
@@ -121,6 +128,7 @@ hand_rests keeper act s t does same rests = record {
   own = λ st is. rests.own st (sym same ∙ is);
 }
 
+-- so it is behind a crash
 crash_rests : (keeper : ℕ) (s t : Site) → CrashesAt s t → IsAtRest keeper s → IsAtRest keeper t
 crash_rests keeper s t (files, crashed, same) rests = record {
   handed = ap (λ (u : Site). u.files.read) same ∙ (ap (λ (f : ShelfView). f.read) crashed.rest ∙ rests.handed);
@@ -160,9 +168,11 @@ module _ {v : LiveView} {keeper : ℕ} {s : Site} (there : site_at v.sites keepe
             (at_site [] is there (subst (λ (d : Disk). GoesAt w keeper d said x) disk goes) rests (λ h at. none_in [] h refl at)),
       )
 
+  -- the machine is one of the world
   at_disk : {w : ProcessWorld} → IsWorldOf v w → w.disks keeper ≡ Some (disk_of s)
   at_disk is = is.disks keeper ∙ ap (option_map disk_of) there
 
+  -- a keeper began
   pub begun_leads : (t : Site) → HasBegun (guest_of v.image) keeper s t → LeadsTo v keeper t (unread t) []
   begun_leads t has w comes is = (
     begun_goes comes (at_disk is) (is.at_rest keeper s there) (subst (λ (image : ImageContents). HasBegun (guest_of image) keeper s t) (sym is.image) has),
@@ -170,6 +180,7 @@ module _ {v : LiveView} {keeper : ℕ} {s : Site} (there : site_at v.sites keepe
         (λ st same. sym (ap (λ (z : StationView). z.keeper) (some_same refl same)) ∙ has.own),
   )
 
+  -- a keeper did not begin
   pub begun_not_leads : (f : EventFault) (t : Site) → BeginsNot (guest_of v.image) s f t → LeadsTo v keeper t (unread t) []
   begun_not_leads f t not w comes is =
       let rests = is.at_rest keeper s there in (
@@ -177,6 +188,7 @@ module _ {v : LiveView} {keeper : ℕ} {s : Site} (there : site_at v.sites keepe
         begins_not_rests (guest_of v.image) keeper s f t not rests,
       )
 
+  -- a keeper logged
   pub logged_leads : (said : Option Acknowledgement) (t : Site) → HasLogged s said t → LeadsTo v keeper t (unread t) (option_to_list said)
   logged_leads said t has w comes is =
       let rests = is.at_rest keeper s there in (
@@ -185,18 +197,22 @@ module _ {v : LiveView} {keeper : ℕ} {s : Site} (there : site_at v.sites keepe
             (λ st same. sym (ap (λ (z : StationView). z.keeper) (some_same refl same)) ∙ rests.own has.station has.runs),
       )
 
+  -- a keeper did not log
   pub logged_not_leads : (f : EventFault) (t : Site) → LogsNot s f t → LeadsTo v keeper t (unread t) []
   logged_not_leads f t not w comes is =
       let rests = is.at_rest keeper s there in (logged_not_goes comes (at_disk is) rests f t not, logs_not_rests keeper s f t not rests)
 
+  -- whoever hands its log over did this
   pub hand_leads : (act : HandAct) (t : Site) → HandDoes act s.files t.files → t.station ≡ s.station → LeadsTo v keeper t (unread t) []
   hand_leads act t does same w comes is =
       let rests = is.at_rest keeper s there in (hand_goes comes (at_disk is) rests act t does same, hand_rests keeper act s t does same rests)
 
+  -- its machine crashed
   pub crash_leads : (t : Site) → CrashesAt s t → LeadsTo v keeper t t []
   crash_leads t crashes w comes is =
       let rests = is.at_rest keeper s there in (crash_goes comes (at_disk is) rests crashes, crash_rests keeper s t crashes rests)
 
+  -- its process ended
   pub end_leads : LeadsTo v keeper (record s { station = None }) (record s { station = None }) []
   end_leads w comes is =
       let rests = is.at_rest keeper s there in (
@@ -204,6 +220,7 @@ module _ {v : LiveView} {keeper : ℕ} {s : Site} (there : site_at v.sites keepe
         record { handed = rests.handed; lives = rests.lives; own = λ st same. absurd cc },
       )
 
+  -- frames that were sent came to it
   pub take_leads : (frames : List Frame) (t : Site) → ((f : Frame) → Contains frames f → Contains v.frames f) → TakesAll frames s t →
       LeadsTo v keeper t t []
   take_leads frames t sent takes w comes is =

@@ -1,19 +1,17 @@
 -- What events at a keeper's machine do, and what refused ones leave.
-use Rattle.std.proofs.Common.{◌≡◌, ◌⊎◌, inl, inr, ◌-◌, ◌++◌, ℕ, List, [], ◌∷◌, drop, slice_set, take, Bool, true, false, is_some, Option, None, Some, Result, Ok, Err, MatchResult, OnOk, IfOk, IfErr, Vec, Global, option_to_list, sym, ap, subst, refl, ◌∙◌}
+use Rattle.std.proofs.Common.{◌≡◌, ◌⊎◌, inl, inr, ◌-◌, ◌++◌, ℕ, List, [], drop, slice_set, take, true, false, is_some, Option, None, Some, Result, Ok, Err, MatchResult, OnOk, IfOk, IfErr, Vec, Global, option_to_list, sym, ap, subst, refl, ◌∙◌}
 use Rattle.std.proofs.lemmas.List.{append-nil, set-set}
 use Rattle.interleaving.specs.Lists.{put}
 use Rattle.fenced_theory.proofs.Growing.{some_none}
 use Rattle.guest_image.specs.Image.{guest_of}
 use Rattle.fragment_codec.specs.declared.frame.Frame.{Frame}
 use Rattle.stations.specs.Stations.{StationView}
-use Rattle.process_world.specs.Worlds.{ProcessWorld}
 use Rattle.process_world.specs.Happenings.{Loses}
 use Rattle.process_world.proofs.Lists.{none_in}
 use Rattle.stations.specs.declared.faults.LogFault.{LogFault}
 use Rattle.wire.specs.declared.acknowledgements.Acknowledgement.{Acknowledgement}
 use Rattle.live_world.specs.declared.event.HandAct.{HandAct}
 use Rattle.live_world.specs.declared.event.HandAct.TheVariants as hands
-use Rattle.live_world.specs.declared.event.KeeperEvent.{KeeperEvent}
 use Rattle.live_world.specs.declared.event.KeeperEvent.TheVariants as k
 use Rattle.live_world.specs.declared.event.Planned.{Planned}
 use Rattle.live_world.specs.declared.fault.EventFault.{EventFault}
@@ -25,7 +23,7 @@ use Rattle.live_world.specs.Happenings.{AtSite, HandActs, KeeperHappens, ThenHan
 use Rattle.live_world.specs.Refusals.{KeeperLeaves, KeeperRefuses, RunsAt, ThenMayHand}
 use Rattle.live_world.specs.Shelves.{HandDoes, IsNoTurn}
 use Rattle.live_world.specs.Sites.{site_at}
-use Rattle.live_world.specs.Views.{Follows, GoesTo, IsWorldOf, LiveView, Same, Then}
+use Rattle.live_world.specs.Views.{GoesTo, IsWorldOf, LiveView, Same, Then}
 use Rattle.live_world.specs.declared.parts.LiveParts.TheInside.{Inside}
 use Rattle.live_world.proofs.Following.{goes_nowhere}
 use Rattle.live_world.proofs.AtSites.{at_lost, moved, site_back}
@@ -65,6 +63,7 @@ all_still v sites said handed same says hands =
     (ap (λ (x : List Acknowledgement). let y : LiveView = record v { said = x; handed = handed } in y) says ∙
     ap (λ (x : List HandedTo). let y : LiveView = record v { handed = x } in y) hands)
 
+-- so nothing happened
 pub nothing_goes : (v : LiveView) (sites : List (Option Site)) (said : List Acknowledgement) (handed : List HandedTo) → sites ≡ v.sites →
     said ≡ v.said → handed ≡ v.handed → GoesTo v (record v { sites = sites; said = said; handed = handed })
 nothing_goes v sites said handed same says hands = goes_nowhere (all_still v sites said handed same says hands)
@@ -127,6 +126,7 @@ abbrev pub IsParted : Result (Option Acknowledgement) EventFault → Option Ackn
 IsParted (Ok a) said done = (said ≡ a) × (done ≡ Ok tt)
 IsParted (Err f) said done = (said ≡ None) × (done ≡ Err f)
 
+-- so it is by what `parted` says
 pub parted_is : (r : Result (Option Acknowledgement) EventFault) (said : Option Acknowledgement) (done : Result (Unit {0}) EventFault) →
     MatchResult r (λ a. (said ≡ a) × (done ≡ Ok tt)) (λ f. (said ≡ None) × (done ≡ Err f)) → IsParted r said done
 parted_is (Ok a) said done is = is
@@ -140,10 +140,12 @@ runs_at v keeper s there runs = let (st, is) = there_is s.station runs in (s, st
     there_is None runs = absurd cc
     there_is (Some st) runs = (st, refl)
 
+-- there is none
 pub none_is : {A : Type 0} (o : Option A) → is_some o ≡ false → o ≡ None
 none_is None not = refl
 none_is (Some x) not = absurd cc
 
+-- there is one
 pub some_is : {A : Type 0} (o : Option A) → is_some o ≡ true → o ≡ None → ⊥
 some_is None is = λ e. absurd cc
 some_is (Some x) is = λ e. absurd cc
@@ -161,6 +163,7 @@ module _ (v : LiveView) (keeper : ℕ) (s : Site) (there : site_at v.sites keepe
     sites = ap (λ (z : LiveView). z.sites) same;
   }
 
+  -- or may be
   then_may : (Deed : Site → Site → Type 0) (said : List Acknowledgement) (one : Option HandedTo) (u : LiveView) → Deed s mid →
       HandsRead (guest_of v.image) keeper mid one → u ≡ moved v keeper (unread mid) said (option_to_list one) →
       AtSite v keeper (ThenMayHand v keeper Deed (option_to_list one)) u
@@ -187,6 +190,7 @@ module _ (v : LiveView) (keeper : ℕ) (s : Site) (there : site_at v.sites keepe
   -- ---- a keeper begins
 
   module _ (plan : Vec Planned Global) where
+    -- it began, or did not
     abbrev Began : Site → Site → Type 0
     Began a b = HasBegun (guest_of v.image) keeper a b ⊎ ((f : EventFault) × BeginsNot (guest_of v.image) a f b)
 
@@ -194,6 +198,7 @@ module _ (v : LiveView) (keeper : ℕ) (s : Site) (there : site_at v.sites keepe
     began (Ok a) has not = inl has
     began (Err f) has not = inr (f, not)
 
+    -- it began, and what was read meanwhile was handed over
     pub begin_happens : {A : Type 0} (r : Result A EventFault) → OnOk r (HasBegun (guest_of v.image) keeper s mid) → (one : Option HandedTo) (u : LiveView) →
         HandsRead (guest_of v.image) keeper mid one → u ≡ moved v keeper (unread mid) [] (option_to_list one) →
         OnOk r (KeeperHappens v (k.Begin keeper plan) u)
@@ -204,12 +209,14 @@ module _ (v : LiveView) (keeper : ℕ) (s : Site) (there : site_at v.sites keepe
     )
     begin_happens (Err f) has one u hands same = tt
 
+    -- why it did not
     pub begin_refused : {A : Type 0} (r : Result A EventFault) → IfErr r (λ f. BeginsNot (guest_of v.image) s f mid) → IfErr r (KeeperRefuses v (k.Begin keeper plan))
     begin_refused (Ok a) not = tt
     begin_refused (Err fault.Runs) ((st, runs), same) = (s, st, there, runs)
     begin_refused (Err (fault.Log why)) not = tt
     begin_refused (Err _) not = absurd not
 
+    -- what that left
     pub begin_left : {A : Type 0} (r : Result A EventFault) → s.station ≡ None → IfErr r (λ f. BeginsNot (guest_of v.image) s f mid) → (one : Option HandedTo)
         (u : LiveView) → HandsRead (guest_of v.image) keeper mid one → u ≡ moved v keeper (unread mid) [] (option_to_list one) →
         IfErr r (λ f. KeeperLeaves v (k.Begin keeper plan) f u)
@@ -222,6 +229,7 @@ module _ (v : LiveView) (keeper : ℕ) (s : Site) (there : site_at v.sites keepe
     )
     begin_left (Err _) away not one u hands same = absurd not
 
+    -- what is left where what was read is not handed over
     pub begin_not_handed : {A : Type 0} (r : Result A EventFault) → OnOk r (HasBegun (guest_of v.image) keeper s mid) → IfErr r (λ f. BeginsNot (guest_of v.image) s f mid) →
         (f : EventFault) (u : LiveView) → IsNotHandedOver (guest_of v.image) mid f → u ≡ moved v keeper (unread mid) [] [] →
         KeeperLeaves v (k.Begin keeper plan) f u
@@ -232,6 +240,7 @@ module _ (v : LiveView) (keeper : ℕ) (s : Site) (there : site_at v.sites keepe
     )
     begin_not_handed r has not _ u fails same = absurd fails
 
+    -- either way it is what may happen
     pub begin_leads : {A : Type 0} (r : Result A EventFault) → OnOk r (HasBegun (guest_of v.image) keeper s mid) → IfErr r (λ f. BeginsNot (guest_of v.image) s f mid) →
         LeadsTo v keeper mid (unread mid) []
     begin_leads (Ok a) has not = begun_leads there mid has
@@ -240,9 +249,11 @@ module _ (v : LiveView) (keeper : ℕ) (s : Site) (there : site_at v.sites keepe
   -- ---- a keeper logs
 
   module _ (plan : Vec Planned Global) where
+    -- it logged and said this, or did not log
     abbrev Logged : Option Acknowledgement → Site → Site → Type 0
     Logged said a b = HasLogged a said b ⊎ ((said ≡ None) × (f : EventFault) × LogsNot a f b)
 
+    -- it logged
     did_log : (said : Option Acknowledgement) → HasLogged s said mid → (one : Option HandedTo) (u : LiveView) →
         HandsRead (guest_of v.image) keeper mid one → u ≡ moved v keeper (unread mid) (option_to_list said) (option_to_list one) →
         KeeperHappens v (k.Log keeper plan) u
@@ -253,6 +264,7 @@ module _ (v : LiveView) (keeper : ℕ) (s : Site) (there : site_at v.sites keepe
       says_more v u keeper (unread mid) (option_to_list said) (option_to_list one) same,
     )
 
+    -- its files failed
     did_not_log : (f : EventFault) → (s.station ≡ None → ⊥) → LogsNot s f mid → (one : Option HandedTo) (u : LiveView) →
         HandsRead (guest_of v.image) keeper mid one → u ≡ moved v keeper (unread mid) [] (option_to_list one) → KeeperLeaves v (k.Log keeper plan) f u
     did_not_log fault.Rests runs (away, still) one u hands same = absurd (runs away)
@@ -263,11 +275,13 @@ module _ (v : LiveView) (keeper : ℕ) (s : Site) (there : site_at v.sites keepe
     )
     did_not_log _ runs not one u hands same = absurd not
 
+    -- why it did not log
     refused_log : (f : EventFault) → LogsNot s f mid → KeeperRefuses v (k.Log keeper plan) f
     refused_log fault.Rests (away, same) = (s, there, away)
     refused_log (fault.Files why) (st, runs, acts, not, leaves) = (s, st, there, runs)
     refused_log _ not = absurd not
 
+    -- the same of what the call gave back, in its two parts
     pub log_happens : (r : Result (Option Acknowledgement) EventFault) (said : Option Acknowledgement) (done : Result (Unit {0}) EventFault) →
         IsParted r said done → IfOk r (λ said. HasLogged s said mid) → (one : Option HandedTo) (u : LiveView) →
         HandsRead (guest_of v.image) keeper mid one → u ≡ moved v keeper (unread mid) (option_to_list said) (option_to_list one) →
@@ -278,6 +292,7 @@ module _ (v : LiveView) (keeper : ℕ) (s : Site) (there : site_at v.sites keepe
     log_happens (Err f) said done (none, err) has one u hands is =
         subst (λ (d : Result (Unit {0}) EventFault). OnOk d (KeeperHappens v (k.Log keeper plan) u)) (sym err) tt
 
+    -- why that is an error
     pub log_refused : (r : Result (Option Acknowledgement) EventFault) (said : Option Acknowledgement) (done : Result (Unit {0}) EventFault) →
         IsParted r said done → IfErr r (λ f. LogsNot s f mid) → IfErr done (KeeperRefuses v (k.Log keeper plan))
     log_refused (Ok a) said done (same, ok) not =
@@ -285,6 +300,7 @@ module _ (v : LiveView) (keeper : ℕ) (s : Site) (there : site_at v.sites keepe
     log_refused (Err f) said done (none, err) not =
         subst (λ (d : Result (Unit {0}) EventFault). IfErr d (KeeperRefuses v (k.Log keeper plan))) (sym err) (refused_log f not)
 
+    -- what that left
     pub log_left : (r : Result (Option Acknowledgement) EventFault) (said : Option Acknowledgement) (done : Result (Unit {0}) EventFault) →
         IsParted r said done → (s.station ≡ None → ⊥) → IfErr r (λ f. LogsNot s f mid) → (one : Option HandedTo) (u : LiveView) →
         HandsRead (guest_of v.image) keeper mid one → u ≡ moved v keeper (unread mid) (option_to_list said) (option_to_list one) →
@@ -296,6 +312,7 @@ module _ (v : LiveView) (keeper : ℕ) (s : Site) (there : site_at v.sites keepe
         (did_not_log f runs not one u hands
         (subst (λ (x : Option Acknowledgement). u ≡ moved v keeper (unread mid) (option_to_list x) (option_to_list one)) none is))
 
+    -- what is left where what was read is not handed over
     pub log_not_handed : (r : Result (Option Acknowledgement) EventFault) (said : Option Acknowledgement) (done : Result (Unit {0}) EventFault) →
         IsParted r said done → IfOk r (λ said. HasLogged s said mid) → IfErr r (λ f. LogsNot s f mid) → (f : EventFault) (u : LiveView) →
         IsNotHandedOver (guest_of v.image) mid f → u ≡ moved v keeper (unread mid) (option_to_list said) [] → KeeperLeaves v (k.Log keeper plan) f u
@@ -313,6 +330,7 @@ module _ (v : LiveView) (keeper : ℕ) (s : Site) (there : site_at v.sites keepe
     )
     log_not_handed r said done parted has not _ u fails is = absurd fails
 
+    -- either way it is what may happen
     pub log_leads : (r : Result (Option Acknowledgement) EventFault) (said : Option Acknowledgement) (done : Result (Unit {0}) EventFault) →
         IsParted r said done → IfOk r (λ said. HasLogged s said mid) → IfErr r (λ f. LogsNot s f mid) →
         LeadsTo v keeper mid (unread mid) (option_to_list said)
@@ -324,6 +342,7 @@ module _ (v : LiveView) (keeper : ℕ) (s : Site) (there : site_at v.sites keepe
   -- ---- whoever hands a log over goes on
 
   module _ (act : HandAct) (does : HandDoes act s.files mid.files) (still : mid.station ≡ s.station) where
+    -- its act was done, and what it read, if anything, was handed over
     pub hand_happens : (one : Option HandedTo) (u : LiveView) → HandsRead (guest_of v.image) keeper mid one →
         u ≡ moved v keeper (unread mid) [] (option_to_list one) → KeeperHappens v (k.Hand keeper act) u
     hand_happens one u hands same = (
@@ -332,6 +351,7 @@ module _ (v : LiveView) (keeper : ℕ) (s : Site) (there : site_at v.sites keepe
       hands_more v u keeper (unread mid) (option_to_list one) same,
     )
 
+    -- what is left where that is not handed over
     pub hand_not_handed : (f : EventFault) (u : LiveView) → IsNotHandedOver (guest_of v.image) mid f → u ≡ moved v keeper (unread mid) [] [] →
         KeeperLeaves v (k.Hand keeper act) f u
     hand_not_handed (fault.Log why) u fails same = (
@@ -351,6 +371,7 @@ module _ (v : LiveView) (keeper : ℕ) (s : Site) (there : site_at v.sites keepe
       no_turn hands.Ends not = absurd not
   stays_left act _ u not same = same
 
+  -- why an act is refused
   pub hand_refused : (act : HandAct) (f : EventFault) → IsNoTurn s.files act f → KeeperRefuses v (k.Hand keeper act) f
   hand_refused act fault.NoTurn not = (s, there, not)
   hand_refused act (fault.Fenced last) not = (s, there, not)
@@ -363,9 +384,11 @@ module _ (v : LiveView) (keeper : ℕ) (s : Site) (there : site_at v.sites keepe
   -- ---- frames come to a keeper
 
   module _ (from to piece : ℕ) where
+    -- those of these numbers
     abbrev Frames : List Frame
     Frames = take (to - from) (drop from v.frames)
 
+    -- all of them came
     pub take_happens : {A : Type 0} (r : Result A EventFault) (u : LiveView) → OnOk r (TakesAll Frames s mid) → u ≡ moved v keeper mid [] [] →
         OnOk r (KeeperHappens v (k.Take keeper from to piece) u)
     take_happens (Ok a) u takes same = (
@@ -374,6 +397,7 @@ module _ (v : LiveView) (keeper : ℕ) (s : Site) (there : site_at v.sites keepe
     )
     take_happens (Err f) u takes same = tt
 
+    -- why they did not
     pub take_refused : {A : Type 0} (r : Result A EventFault) → IfErr r (λ f. TakesNot Frames s f mid) →
         IfErr r (KeeperRefuses v (k.Take keeper from to piece))
     take_refused (Ok a) not = tt
@@ -381,6 +405,7 @@ module _ (v : LiveView) (keeper : ℕ) (s : Site) (there : site_at v.sites keepe
     take_refused (Err fault.Memory) not = tt
     take_refused (Err _) not = absurd not
 
+    -- what that left
     pub take_left : {A : Type 0} (r : Result A EventFault) (u : LiveView) → IfErr r (λ f. TakesNot Frames s f mid) → u ≡ moved v keeper mid [] [] →
         IfErr r (λ f. KeeperLeaves v (k.Take keeper from to piece) f u)
     take_left (Ok a) u not same = tt
@@ -392,6 +417,7 @@ module _ (v : LiveView) (keeper : ℕ) (s : Site) (there : site_at v.sites keepe
     )
     take_left (Err _) u not same = absurd not
 
+    -- either way it is what may happen
     pub taken_leads : {A : Type 0} (r : Result A EventFault) → OnOk r (TakesAll Frames s mid) → IfErr r (λ f. TakesNot Frames s f mid) →
         LeadsTo v keeper mid mid []
     taken_leads (Ok a) takes not = take_leads there Frames mid (in_range (to - from) from v.frames) takes
@@ -402,18 +428,21 @@ module _ (v : LiveView) (keeper : ℕ) (s : Site) (there : site_at v.sites keepe
 
   -- ---- a keeper's process, its machine, or all of it is gone
 
+  -- its process is gone
   pub end_happens : (u : LiveView) → mid ≡ record s { station = None } → u ≡ moved v keeper mid [] [] → KeeperHappens v (k.KeeperEnds keeper) u
   end_happens u is same = (
     record { before = s; there = there; after = mid; deed = is; sites = ap (λ (z : LiveView). z.sites) same },
     moves_alone v u keeper mid same,
   )
 
+  -- its machine crashed
   pub crash_happens : (left : ℕ) (u : LiveView) → CrashesAt s mid → u ≡ moved v keeper mid [] [] → KeeperHappens v (k.Crash keeper left) u
   crash_happens left u crashes same = (
     record { before = s; there = there; after = mid; deed = crashes; sites = ap (λ (z : LiveView). z.sites) same },
     moves_alone v u keeper mid same,
   )
 
+-- a keeper is lost
 pub lost_goes : (v : LiveView) (keeper : ℕ) (s : Site) (u : LiveView) → site_at v.sites keeper ≡ Some s →
     u ≡ record v { sites = slice_set v.sites keeper None } → GoesTo v u
 lost_goes v keeper s u there same w comes is = (
