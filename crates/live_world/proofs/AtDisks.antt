@@ -9,7 +9,7 @@ use Rattle.guest_image.specs.Image.{ImageContents, guest_of}
 use Rattle.ft_types.specs.declared.position.Position.{Position}
 use Rattle.keeper_disks.specs.Disks.{Disk, Out, Nothing, Says, Hands, Goes}
 use Rattle.process_world.specs.Worlds.{Handed, ProcessWorld}
-use Rattle.process_world.specs.Happenings.{Happens, AtKeeper, with_out}
+use Rattle.process_world.specs.Happenings.{AtKeeper, with_out}
 use Rattle.wire.specs.declared.acknowledgements.Acknowledgement.{Acknowledgement}
 use Rattle.live_world.specs.Shelves.{ReadView}
 use Rattle.live_world.specs.Views.{Follows, Same, Then}

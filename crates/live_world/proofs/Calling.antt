@@ -1,5 +1,6 @@
 -- A keeper's call over files that tell what was done.
-use Rattle.std.proofs.Common.{◌≡◌, ◌++◌, max, ℕ, Bool, false, List, [], ◌∷◌, Option, None, Some, if◌then◌else◌, sym, ap, subst, ◌∙◌, append_assoc, append-nil, inl, inr}
+use Rattle.std.proofs.Common.{◌≡◌, ◌++◌, max, ℕ, Bool, true, false, List, [], ◌∷◌, Option, None, Some, if◌then◌else◌, refl, sym, ap, subst, ◌∙◌, append_assoc, append-nil, inl, inr}
+use Rattle.std.specs.Prelude.{is_some}
 use Rattle.ft_types.specs.Guests.{GuestParts}
 use Rattle.stations.specs.Acts.{Act, SawLog, Added, Synced, Failed, Does}
 use Rattle.stations.specs.Stations.{StationView, AnswersAs, IsBegun, IsNoKeepers, IsNotLogged, logging}
@@ -12,21 +13,23 @@ use Rattle.live_world.specs.declared.fault.EventFault.TheVariants as fault
 use Rattle.live_world.specs.declared.site.Site.{Site}
 use Rattle.live_world.specs.Calls.{AreAll, BeginsNot, HasBegun, HasLogged, Leaves, LogsNot}
 use Rattle.live_world.specs.Passages.{Passes, Begins, ThenDid, ThenBeside}
-use Rattle.live_world.specs.Shelves.{ShelfView, Besides, Still, Then}
+use Rattle.live_world.specs.Shelves.{ShelfView}
 use Rattle.live_world.specs.machinery.Passing.{Tells}
 use Rattle.live_world.proofs.Telling.{passed}
 
 -- ---- what passed
-
-pub besides_passed : {s t : ShelfView} → Besides s t → Passes s [] t
-besides_passed Still = Begins
-besides_passed (Then besides beside) = ThenBeside (besides_passed besides) beside
 
 passes_then : {s t u : ShelfView} (xs ys : List Act) → Passes s xs t → Passes t ys u → Passes s (xs ++ ys) u
 passes_then {s} {t} xs _ first Begins = subst (λ (acts : List Act). Passes s acts t) (sym (append-nil xs)) first
 passes_then {s} xs _ first (ThenDid {acts} {t = v} {u} later act done) =
     subst (λ (all : List Act). Passes s all u) (append_assoc xs acts (act ∷ [])) (ThenDid (passes_then xs acts first later) act done)
 passes_then xs ys first (ThenBeside later beside) = ThenBeside (passes_then xs ys first later) beside
+
+abbrev pub at_end : ShelfView → ShelfView
+at_end files = record files { crashed = false }
+
+abbrev pub with_files : ShelfView → Option StationView → Site
+with_files files station = record { files = files; station = station }
 
 -- with the files of the one, and the process of the other
 abbrev over : Site → ShelfView → Site
@@ -40,6 +43,12 @@ leaves_then {s} {mid} {t} {acts} passes leaves = record {
   passes = subst (λ (all : List Act). Passes s.files all leaves.files) (append-nil acts) (passes_then acts [] passes leaves.passes);
   rest = leaves.rest;
 }
+
+-- its process is gone where the machine crashed
+pub at_rest : (crashed : Bool) (files : ShelfView) (station left : Option StationView) → files.crashed ≡ crashed →
+    left ≡ (if crashed then None else station) → with_files (at_end files) left ≡ with_files (at_end files) (if files.crashed then None else station)
+at_rest crashed files station left is process =
+    ap (with_files (at_end files)) (process ∙ ap (λ (b : Bool). if b then None else station) (sym is))
 
 -- ---- a keeper begins
 
@@ -57,6 +66,14 @@ no_keepers guest a b OtherGuest (log, frames, size, does, front, met) =
     (SawLog log ∷ [], (log, frames, size, all (SawLog log ∷ []), front, met), passed does)
 no_keepers guest a b Clash (log, frames, size, does, front, met) =
     (SawLog log ∷ [], (log, frames, size, all (SawLog log ∷ []), front, met), passed does)
+
+pub is_away : (station : Option StationView) → is_some station ≡ false → station ≡ None
+is_away None rests = refl
+is_away (Some st) rests = absurd cc
+
+pub is_there : (station : Option StationView) → is_some station ≡ true → (st : StationView) × (station ≡ Some st)
+is_there None runs = absurd cc
+is_there (Some st) runs = (st, refl)
 
 pub begun : (guest : GuestParts) (keeper : ℕ) (s t : Site) (mid : ShelfView) (station : StationView) → s.station ≡ None →
     IsBegun guest keeper (Tells s.files) (Tells mid) station → Leaves (over s mid) [] (Some station) t → HasBegun guest keeper s t

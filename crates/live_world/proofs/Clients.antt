@@ -2,8 +2,6 @@
 use Rattle.std.proofs.Common.{◌≡◌, ◌⊎◌, inl, inr, ◌↔◌, ℕ, zero, suc, ◌+◌, List, [], ◌∷◌, ◌++◌, Contains, length, slice_get, slice_set, Option, None, Some, Result, Ok, Err, OnOk, IfErr, refl, sym, ap, subst, ◌∙◌, arith}
 use Rattle.std.specs.Option.{option_to_list}
 use Rattle.std.proofs.lemmas.List.{append-nil}
-use Rattle.std.proofs.lemmas.Option.{slice_get_within, get_or_from_slice_get}
-use Rattle.std.proofs.lemmas.List.Elements.{Contains-append_cases, Contains-append_left, Contains-append_right}
 use Rattle.asking.specs.Talks.{TalkView}
 use Rattle.requests.specs.Asking.{next_of, asked_again, with_answer}
 use Rattle.wire.specs.declared.answers.Answer.{Answer}
@@ -17,22 +15,7 @@ use Rattle.live_world.specs.Happenings.{AtTalk, AsksNext, HearsOne, TellsNext, C
 use Rattle.live_world.specs.Refusals.{ClientLeaves}
 use Rattle.live_world.specs.Views.{GoesTo, IsWorldOf, LiveView}
 use Rattle.live_world.proofs.Following.{once, goes_nowhere}
-
--- what was in one of them is in the other, and so is what comes behind the one and before the other
-pub grown : {A : Type 0} (xs ys more : List A) → ((x : A) → Contains xs x ↔ Contains ys x) → (x : A) → Contains (xs ++ more) x ↔ Contains (more ++ ys) x
-grown xs ys more each x = (
-    (λ has. elim (Contains-append_cases xs more x has) [
-      | inl old ↦ Contains-append_right more ys x ((each x).0 old)
-      | inr new ↦ Contains-append_left more ys x new
-    ]),
-    (λ has. elim (Contains-append_cases more ys x has) [
-      | inl new ↦ Contains-append_right xs more x new
-      | inr old ↦ Contains-append_left xs more x ((each x).1 old)
-    ]))
-
--- what stands at a place of a list is in it
-pub contained : {A : Type 0} (xs : List A) (n : ℕ) (x : A) → slice_get xs n ≡ Some x → Contains xs x
-contained xs n x there = (n, slice_get_within xs n x there, get_or_from_slice_get xs n x x there)
+use Rattle.live_world.proofs.Growing.{both_more, contained}
 
 -- a list with what stands at a place put there is that list
 pub set_there : {A : Type 0} (xs : List A) (n : ℕ) (x : A) → slice_get xs n ≡ Some x → slice_set xs n x ≡ xs
@@ -73,7 +56,7 @@ module _ {v : LiveView} {w : ProcessWorld} (is : IsWorldOf v w) where
   asked_both u clients more rest same =
       let asked : u.asked ≡ v.asked ++ more = ap (λ (u : LiveView). u.asked) rest in
       both u clients (more ++ w.asked) (rest ∙ ap (λ (all : List Request). record v { clients = u.clients; asked = all }) (sym asked)) same
-      (λ r. subst (λ (all : List Request). Contains all r ↔ Contains (more ++ w.asked) r) (sym asked) (grown v.asked w.asked more is.asked r))
+      (λ r. subst (λ (all : List Request). Contains all r ↔ Contains (more ++ w.asked) r) (sym asked) (both_more v.asked w.asked more is.asked r))
 
   -- the client stands there too
   pub talks : (n : ℕ) (t : TalkView) → slice_get v.clients n ≡ Some t → slice_get w.clients n ≡ Some t

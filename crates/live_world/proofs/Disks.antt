@@ -1,6 +1,6 @@
 -- What goes on at one keeper's disk while a call lasts, as events of the world of processes.
-use Rattle.std.proofs.Common.{◌≡◌, ◌≤◌, ◌++◌, max, ℕ, Bool, true, false, cond, List, [], ◌∷◌, Contains, Option, None, Some, option_map, ◌⊎◌, inl, inr, refl, sym, ap, subst}
-use Rattle.std.proofs.Common.{◌∙◌, append-nil, arith}
+use Rattle.std.proofs.Common.{◌≡◌, ◌≤◌, ◌++◌, max, ℕ, Bool, true, false, cond, List, [], ◌∷◌, Contains, Option, None, Some, option_map, ◌⊎◌}
+use Rattle.std.proofs.Common.{inl, inr, refl, sym, ap, subst, ◌∙◌, append-nil, arith}
 use Rattle.std.specs.Option.{option_to_list}
 use Rattle.std.proofs.lemmas.List.Elements.{Contains-append_right}
 use Rattle.interleaving.proofs.Cuts.{here}
@@ -16,7 +16,7 @@ use Rattle.stations.specs.Stations.{StationView, Answers, IsNoKeepers, IsNotLogg
 use Rattle.stations.specs.declared.faults.FilesFault.{FilesFault}
 use Rattle.stations.specs.declared.faults.LogFault.{LogFault}
 use Rattle.stations.specs.declared.faults.LogFault.TheVariants.{Files as FilesOfLog, Frame as FrameAt, OtherGuest, Clash}
-use Rattle.keeper_disks.specs.Disks.{Phase, Away, HasRead, Rests, Adding, Synced, Disk, Nothing, Says, Keeps, Reads, Begins, Adds, Syncs, Looks, Acknowledges}
+use Rattle.keeper_disks.specs.Disks.{Phase, Away, HasRead, Rests, Adding, Synced, Nothing, Keeps, Reads, Begins, Adds, Syncs, Looks, Acknowledges}
 use Rattle.keeper_disks.specs.Disks.{Takes, KeeperEnds, logged}
 use Rattle.process_world.specs.Worlds.{ProcessWorld}
 use Rattle.process_world.specs.Happenings.{Comes}

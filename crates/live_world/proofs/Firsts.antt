@@ -6,6 +6,8 @@ use Rattle.keeper_disks.specs.Disks.{Nothing, Says, Hands}
 use Rattle.keeper_disks.specs.Standing.{nothing_there}
 use Rattle.process_world.specs.Worlds.{Begins, ProcessWorld}
 use Rattle.process_world.specs.Happenings.{Happens, AtKeeper, Comes, First, Then as ComesThen}
+use Rattle.process_world.specs.Promises.{KeepsPromises}
+use Rattle.process_world.proofs.All.{processes}
 use Rattle.live_world.specs.declared.site.Site.{Site}
 use Rattle.live_world.specs.Sites.{IsAtRest, disk_at, empty_site, site_at}
 use Rattle.live_world.specs.Views.{Follows, GoesTo, IsWorldOf, LiveView, Same, Then as FollowsThen, first_world}
@@ -24,12 +26,12 @@ first_others zero k less = refl
 first_others (suc keepers) zero less = absurd (omega arith)
 first_others (suc keepers) (suc k) less = first_others keepers k (omega arith)
 
--- each stands still
-first_rests : (keepers k : ℕ) (s : Site) → site_at (replicate keepers (Some empty_site)) k ≡ Some s → IsAtRest s
-first_rests zero k s there = absurd cc
-first_rests (suc keepers) zero s there =
-    let same : empty_site ≡ s = cc in subst IsAtRest same (record { handed = refl; lives = refl })
-first_rests (suc keepers) (suc k) s there = first_rests keepers k s there
+-- each stands still, whichever keeper's it is
+first_rests : (keepers k keeper : ℕ) (s : Site) → site_at (replicate keepers (Some empty_site)) k ≡ Some s → IsAtRest keeper s
+first_rests zero k keeper s there = absurd cc
+first_rests (suc keepers) zero keeper s there =
+    let same : empty_site ≡ s = cc in subst (IsAtRest keeper) same (record { handed = refl; lives = refl; own = λ st runs. absurd cc })
+first_rests (suc keepers) (suc k) keeper s there = first_rests keepers k keeper s there
 
 module _ (image : ImageContents) (quorum : Quorum) where
   abbrev first : ProcessWorld
@@ -69,7 +71,7 @@ module _ (image : ImageContents) (quorum : Quorum) where
     keepers = refl;
     need = refl;
     disks = λ k. refl;
-    at_rest = first_rests quorum.keepers;
+    at_rest = λ k. first_rests quorum.keepers k k;
     frames = λ f has. has;
     said = λ a. (λ has. has, λ has. has);
     handed = λ h has. absurd (omega (arith, has.1));
@@ -114,3 +116,8 @@ goes_on v u goes (p, comes, is) =
     (x, subst (λ (image : ImageContents). Comes image u.quorum.keepers u.quorum.need x) same_image
     (subst (λ (keepers : ℕ). Comes v.image keepers u.quorum.need x) same_keepers (subst (λ (need : ℕ). Comes v.image v.quorum.keepers need x) same_need now)),
     is_x)
+
+-- and the promises that such a world keeps
+pub keeps_promises : (v : LiveView) → (p : ProcessWorld) × Comes v.image v.quorum.keepers v.quorum.need p × IsWorldOf v p →
+    (p : ProcessWorld) × Comes v.image v.quorum.keepers v.quorum.need p × IsWorldOf v p × KeepsPromises p
+keeps_promises v (p, comes, is) = (p, comes, is, processes v.image v.quorum.keepers v.quorum.need p comes)

@@ -8,8 +8,11 @@ pub mod Leading
 pub mod Disks
 pub mod AtSites
 pub mod Telling
+pub mod SiteCalls
+pub mod SiteEvents
 pub mod Seeing
 pub mod Filing
+pub mod AtPlaces
 pub mod Taking
 pub mod Calling
 pub mod Clients
@@ -17,3 +20,4 @@ pub mod Grants
 pub mod Firsts
 pub mod Logs
 pub mod Lines
+pub mod Talking

@@ -102,10 +102,11 @@ is_new Foreign = inr (λ e. absurd cc)
 
 -- ---- what is heard of it
 
-module _ (a : Answer) (is : IsKept a) (t u : TalkView) (r : Heard) (text : List ℕ) (of_answer : text ≡ answer_text a)
+module _ (a : Answer) (is : IsKept a) (t u : TalkView) (r : Heard) (text : List ℕ)
     (answer : (b : Answer) → SaysAnswer HART_LIMIT text b → r ≡ heard t.asker b.output)
     (new : (b : Answer) → SaysAnswer HART_LIMIT text b → r ≡ New → u ≡ record t { asker = with_answer t.asker b.output })
-    (other : ((b : Answer) → SaysAnswer HART_LIMIT text b → ⊥) → r ≡ Foreign) (stays : (r ≡ New → ⊥) → u ≡ t) where
+    (other : ((b : Answer) → SaysAnswer HART_LIMIT text b → ⊥) → r ≡ Foreign) (stays : (r ≡ New → ⊥) → u ≡ t)
+    (of_answer : text ≡ answer_text a) where
   heard_said : IsAnswer HART_LIMIT a → (r ≡ New) ⊎ (r ≡ New → ⊥) → HearsOne a t u
   heard_said said (inl fresh) = inl (said, sym (answer a (said, of_answer)) ∙ fresh, new a (said, of_answer) fresh)
   heard_said said (inr stale) = inr ((λ again fresh. stale (answer a (said, of_answer) ∙ fresh)), stays stale)

@@ -1,9 +1,9 @@
 -- A log is read in one way.
-use Rattle.std.proofs.Common.{◌≡◌, ◌++◌, ℕ, List, [], Option, None, Some, ◌⊎◌, inl, inr, refl, sym, ap, subst, ◌∙◌, append-nil, append_assoc}
+use Rattle.std.proofs.Common.{◌≡◌, ◌++◌, ℕ, List, [], None, Some, ◌⊎◌, inl, inr, refl, sym, ap, subst, ◌∙◌, append-nil}
 use Rattle.std.specs.List.{flat_map}
 use Rattle.fragment_codec.specs.declared.fault.FrameFault.{FrameFault}
 use Rattle.fragment_codec.specs.declared.frame.Frame.{Frame}
-use Rattle.fragment_codec.specs.Streams.{Spelled, text_of, IsPartial, IsStuck, Splits, HasReading, Unread, Follows}
+use Rattle.fragment_codec.specs.Streams.{Spelled, text_of, IsPartial, Splits, HasReading, Follows}
 use Rattle.fragment_codec.proofs.streams.HasReading.{has_reading}
 use Rattle.fragment_codec.proofs.streams.Readings.{one_split, one_feed}
 use Rattle.fragment_codec.proofs.streams.Splits.{splits_more}

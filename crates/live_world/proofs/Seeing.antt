@@ -1,5 +1,5 @@
 -- Whoever hands a log over, over what it saw.
-use Rattle.std.proofs.Common.{◌≡◌, ◌≤◌, ◌++◌, ℕ, List, [], ◌∷◌, None, Some, inl, inr, refl, sym, ap, subst, ◌∙◌, append_assoc}
+use Rattle.std.proofs.Common.{◌≡◌, ◌≤◌, ◌++◌, ℕ, List, [], ◌∷◌, None, Some, inl, inr, refl, sym, ap, subst}
 use Rattle.ft_types.specs.Guests.{GuestParts}
 use Rattle.stations.specs.Acts.{Act, SawLog, CutTo, Added, Synced, SawFence, Fenced, Failed, Does}
 use Rattle.stations.specs.Handing.{IsHanded, IsHandedTo, IsNotFenced, IsNotHanded}
@@ -9,7 +9,6 @@ use Rattle.stations.specs.declared.faults.FenceFault.TheVariants.{Files as Files
 use Rattle.stations.specs.declared.faults.LogFault.{LogFault}
 use Rattle.stations.specs.declared.faults.LogFault.TheVariants.{Files, Frame as FrameAt, OtherGuest, Clash}
 use Rattle.live_world.specs.Hands.{HasHanded, IsNotFencedOff, IsNotRead}
-use Rattle.live_world.specs.Shelves.{ReadView}
 use Rattle.live_world.specs.declared.hand.HandedTo.{HandedTo}
 use Rattle.live_world.specs.machinery.Seen.{LeavesSeen, TellsSeen}
 
@@ -74,7 +73,7 @@ not_read guest last now term a b OtherGuest (log, frames, size, does, front, oth
     (frames, size, subst (λ (x : List ℕ). IsFrontOf x frames size None) seen.left.0 front, other)
 not_read guest last now term a b Clash not = not
 
-pub has_handed : (guest : GuestParts) (keeper last now term : ℕ) (a b frames : List ℕ) (handed : HandedTo) →
+has_handed : (guest : GuestParts) (keeper last now term : ℕ) (a b frames : List ℕ) (handed : HandedTo) →
     IsHanded guest (TellsSeen last a) (TellsSeen now b) frames → IsHandedTo guest keeper term frames handed.bytes.items → handed.keeper ≡ keeper →
     handed.term ≡ term → HasHanded guest keeper (record { term = term; log = a }) handed
 has_handed guest keeper last now term a b frames handed is line own at =
@@ -90,3 +89,11 @@ has_handed guest keeper last now term a b frames handed is line own at =
       partial = is.partial;
       line = line;
     }
+
+-- of a log and a term that are those of what was read
+pub has_handed_as : (guest : GuestParts) (keeper last now term at : ℕ) (a log b frames : List ℕ) (handed : HandedTo) → a ≡ log → term ≡ at →
+    IsHanded guest (TellsSeen last a) (TellsSeen now b) frames → IsHandedTo guest keeper term frames handed.bytes.items → handed.keeper ≡ keeper →
+    handed.term ≡ at → HasHanded guest keeper (record { term = at; log = log }) handed
+has_handed_as guest keeper last now term at a log b frames handed same_log same_term is line own of_term =
+    rw (← same_log) (has_handed guest keeper last now at a b frames handed is
+    (subst (λ (n : ℕ). IsHandedTo guest keeper n frames handed.bytes.items) same_term line) own of_term)

@@ -1,20 +1,19 @@
 -- What goes on at one keeper's disk while a call lasts, step by step: what happens beside its acts, and the acts.
-use Rattle.std.proofs.Common.{◌≡◌, ◌++◌, ℕ, Bool, true, false, cond, List, [], ◌∷◌, Contains, Option, None, Some, ◌⊎◌, inl, inr, refl, sym, ap, subst, ◌∙◌}
+use Rattle.std.proofs.Common.{◌≡◌, ◌++◌, ℕ, Bool, true, false, cond, List, [], ◌∷◌, Contains, None, Some, inl, inr, refl, sym, ap, subst, ◌∙◌}
 use Rattle.std.proofs.Common.{append-nil, arith, ◌<◌}
 use Rattle.std.proofs.lemmas.Bool.{cases_Bool}
 use Rattle.guest_image.specs.Image.{ImageContents, guest_of}
 use Rattle.interleaving.proofs.Cuts.{here}
 use Rattle.fragment_codec.specs.declared.frame.Frame.{Frame}
-use Rattle.fragment_codec.specs.Streams.{IsPartial, Splits}
+use Rattle.fragment_codec.specs.Streams.{Splits}
 use Rattle.fragment_codec.proofs.streams.Splits.{splits_more}
 use Rattle.stations.specs.Acts.{Act, SawLog, CutTo, Added, Synced as WasSynced, SawFence, Fenced, Failed}
 use Rattle.stations.specs.Handshake.{Files, Did, Crash, IsBeginning, after}
 use Rattle.stations.specs.declared.faults.FilesFault.{FilesFault}
 use Rattle.ft_types.specs.declared.position.Position.{Position}
-use Rattle.keeper_disks.specs.Disks.{Phase, Away, Rests, Hand, Nobody, Saw, HasFenced, Disk, Out, Nothing, Says, Hands, Keeps, Gives, Sees, Fences, HandsOver}
+use Rattle.keeper_disks.specs.Disks.{Phase, Away, Hand, Nobody, Saw, HasFenced, Disk, Nothing, Says, Hands, Keeps, Gives, Sees, Fences, HandsOver}
 use Rattle.keeper_disks.specs.Disks.{WereSent, Goes, KeeperDoes, KeeperEnds, HandEnds, Crashes, HandDoes as HandDoesNext}
 use Rattle.keeper_disks.proofs.Standings.{disks_crash}
-use Rattle.failover_world.specs.machinery.Tied.{Books}
 use Rattle.process_world.specs.Worlds.{Handed, ProcessWorld}
 use Rattle.process_world.specs.Happenings.{Comes}
 use Rattle.process_world.proofs.All.{tied}
@@ -22,8 +21,7 @@ use Rattle.wire.specs.declared.acknowledgements.Acknowledgement.{Acknowledgement
 use Rattle.live_world.specs.declared.event.HandAct.{HandAct}
 use Rattle.live_world.specs.declared.event.HandAct.TheVariants as hands
 use Rattle.live_world.specs.Passages.{IsNothing, IsDone}
-use Rattle.live_world.specs.Shelves.{ReadView, ShelfView, HandDoes, HasCrashed, Beside, HandDid, Crashed, Besides, Still, Then}
-use Rattle.live_world.specs.Sites.{phase_of}
+use Rattle.live_world.specs.Shelves.{ShelfView, HandDoes, HasCrashed, Beside, HandDid, Crashed, Besides, Still, Then}
 use Rattle.live_world.proofs.AtDisks.{GoesAt, ReadIn, still_read, as_disk, quiet, says, hands as hand_over, with_lists}
 use Rattle.live_world.proofs.Following.{comes_on}
 use Rattle.live_world.proofs.Readings.{IsInFront, one_front, front}
@@ -56,7 +54,7 @@ were_sent : {image : ImageContents} {keepers need : ℕ} {x : ProcessWorld} {kee
 were_sent {x = x} {keeper = keeper} d comes at =
     let is = (tied comes).0 in
     subst (λ (sent : List Frame). WereSent sent d.files.log) is.sent
-    (disks_crash (Books x.image.pages is.are_theory) (guest_of x.image) is.world keeper d (is.standing keeper d at)).0
+    (disks_crash _ (guest_of x.image) is.world keeper d (is.standing keeper d at)).0
 
 begin_sent : (sent : List Frame) (left log : List ℕ) → IsBeginning left log → WereSent sent log → WereSent sent left
 begin_sent sent left log (more, parts) were frames rest splits f has =

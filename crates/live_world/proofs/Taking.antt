@@ -1,6 +1,10 @@
 -- Frames come to a keeper, in pieces of their stream.
-use Rattle.std.proofs.Common.{◌≡◌, ◌≢◌, ◌++◌, ℕ, List, [], ◌∷◌, length, take, drop, Option, None, Some, refl, sym, ap, subst, ◌∙◌, append_assoc, inl, inr}
-use Rattle.std.proofs.lemmas.List.{take_at, take-append-drop}
+use Rattle.std.proofs.Common.{◌≡◌, ◌≢◌, ◌+◌, ◌<◌, ◌++◌, ℕ, false, List, [], ◌∷◌, length, take, drop, get_or, Option, None, Some, Result, Ok, Err, refl, sym, ap, subst, ◌∙◌, append_assoc, append-nil, inl, inr}
+use Rattle.std.specs.List.{flat_map}
+use Rattle.std.specs.Prelude.{is_err}
+use Rattle.std.proofs.lemmas.List.{take_at, take_more, take-append-drop}
+use Rattle.std.proofs.lemmas.List.Concat.{flat_map-append}
+use Rattle.ft_types.specs.Devices.{Writes}
 use Rattle.fragment_codec.specs.declared.fault.FrameFault.{FrameFault}
 use Rattle.fragment_codec.specs.declared.fault.FrameFault.TheVariants as of_frame
 use Rattle.fragment_codec.specs.declared.frame.Frame.{Frame}
@@ -30,7 +34,7 @@ new_station st new bytes fresh seen keeper =
     ∙ ap (λ (f : List ℕ). record new { keeper = st.keeper; fresh = f }) fresh
     ∙ ap (λ (n : ℕ). record new { keeper = st.keeper; fresh = bytes; seen = n }) seen
 
-abbrev with_station : Site → StationView → Site
+abbrev pub with_station : Site → StationView → Site
 with_station s st = record s { station = Some st }
 
 -- the keeper's call took it
@@ -92,6 +96,30 @@ not_then frames fs gs hs s mid t fault.Memory parts all (many, others) =
 not_then frames fs gs hs s mid t other parts all not = absurd not
 
 -- ---- streams of whole frames
+
+-- a sink that did not fail took all
+pub wrote : {A E : Type 0} (r : Result A E) (old new : List ℕ) (f g : ℕ) (text : List ℕ) → is_err r ≡ false →
+    Writes r (Some old) (Some new) f g text → new ≡ old ++ text
+wrote (Ok x) old new f g text ok writes = writes.0
+wrote (Err e) old new f g text ok writes = absurd cc
+
+-- these bytes are the first so many frames, and no others
+abbrev IsStreamOf : List Frame → ℕ → List ℕ → Type 0
+IsStreamOf frames i bytes = (bytes ≡ flat_map spelling (take i frames)) × Splits bytes (take i frames) []
+
+pub one_more : (frames : List Frame) (i : ℕ) (frame : Frame) (old new : List ℕ) → i < length frames → frame ≡ get_or frames i frame →
+    new ≡ old ++ spelling frame → Splits (spelling frame) (frame ∷ []) [] → IsStreamOf frames i old → IsStreamOf frames (i + 1) new
+one_more frames i frame old new within is written again (bytes, splits) =
+    let front : take (i + 1) frames ≡ take i frames ++ frame ∷ [] =
+    take_more frames i frame within ∙ ap (λ (f : Frame). take i frames ++ f ∷ []) (sym is) in
+    let text : flat_map spelling (take (i + 1) frames) ≡ flat_map spelling (take i frames) ++ spelling frame =
+    ap (flat_map spelling) front ∙ flat_map-append spelling (take i frames) (frame ∷ [])
+    ∙ ap (λ (x : List ℕ). flat_map spelling (take i frames) ++ x) (append-nil (spelling frame)) in
+    let more : Splits new (take i frames ++ frame ∷ []) [] =
+    subst (λ (x : List ℕ). Splits x (take i frames ++ frame ∷ []) []) (sym written)
+    (splits_on (old ++ spelling frame) (spelling frame) [] (take i frames) (frame ∷ [])
+    (splits_more old [] (spelling frame) (take i frames) splits) again) in
+    (written ∙ ap (λ (x : List ℕ). x ++ spelling frame) bytes ∙ sym text, subst (λ (fs : List Frame). Splits new fs []) (sym front) more)
 
 abbrev end : Option FrameFault → Unread
 end fault = record { rest = []; fault = fault }

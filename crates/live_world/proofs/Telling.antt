@@ -1,7 +1,6 @@
 -- What files in memory tell is what passed.
 use Rattle.std.proofs.Common.{◌≡◌, ◌++◌, ℕ, Bool, true, false, List, [], ◌∷◌, Option, None, Some, refl, sym, ap, ◌∙◌, append_assoc, append-nil}
-use Rattle.stations.specs.Acts.{Act, SawLog, CutTo, Synced, SawFence, Fenced, Does}
-use Rattle.stations.specs.Handshake.{Files}
+use Rattle.stations.specs.Acts.{Act, Does}
 use Rattle.stations.proofs.Does.{does_two}
 use Rattle.keeper_disks.specs.Disks.{Hand, Nobody, Saw, HasFenced}
 use Rattle.live_world.specs.Shelves.{ReadView, ShelfView, Besides, Still, Then}

@@ -1,6 +1,9 @@
 //! What happens to clients, and what anybody asks for.
 
-ghost use Rattle.std.specs.Prelude.{◌≡◌, IfErr, OnOk};
+ghost use Rattle.std.specs.Prelude.{◌≡◌, ◌<◌, ◌^◌, ◌-◌, length, take, IfErr, OnOk};
+ghost use Rattle.ft_types.specs.Text.{line};
+ghost use Rattle.ft_types.specs.declared.names.TheConstants.{HART_LIMIT};
+ghost use Rattle.wire.specs.Answers.{answer_text};
 ghost use Rattle.live_world.specs.declared.event.ClientEvent.TheVariants as on;
 ghost use Rattle.live_world.specs.Happenings.{ClientHappens};
 ghost use Rattle.live_world.specs.Refusals.{ClientRefuses, ClientLeaves};
@@ -9,9 +12,41 @@ use crate::fault::EventFault;
 use crate::parts::LiveParts;
 use crate::room::{add_all, make_room};
 use asking::Talk;
+use ft_types::{Count, Term};
 use std::alloc::Global;
 use std::result::Result;
-use wire::{Request, answer_line};
+use wire::{Answer, Line, Request, answer_line};
+
+// proof: each number fits its type
+fn are_kept(_term: Term, _number: u64, _step: Count, _word: u32)
+    ensures term { _term < 2 ^ 32 }
+    ensures number { _number < 2 ^ 64 }
+    ensures step { _step < 2 ^ 64 }
+    ensures word_is { _word < 2 ^ 32 }
+{
+}
+
+/// The line of an answer that was told.
+fn line_of(answer: &Answer) -> Line
+    ensures text { result ≡ line (answer_text answer.now) }
+    ensures term { answer.now.term < 2 ^ 32 }
+    ensures hart { answer.now.output.hart < HART_LIMIT }
+    ensures number { answer.now.output.number < 2 ^ 64 }
+    ensures step { answer.now.output.step < 2 ^ 64 }
+    ensures word_is { answer.now.output.word < 2 ^ 32 }
+{
+    let output = &answer.output;
+    let _hart = output.hart.number();
+    are_kept(answer.term, output.number, output.step, output.word);
+    answer_line(answer)
+}
+
+/// The bytes but the last.
+fn text_of(bytes: &[u8]) -> &[u8]
+    ensures { result.now ≡ take (length bytes.now - 1) bytes.now }
+{
+    &bytes[..bytes.len().saturating_sub(1)]
+}
 
 impl LiveParts {
     /// A client comes, that has heard nothing.
@@ -83,9 +118,10 @@ impl LiveParts {
         if client >= self.clients.len() {
             return Err(EventFault::NoClient);
         }
-        let line = answer_line(&self.told[told]);
+        let line = line_of(&self.told[told]);
         let bytes = line.as_slice();
-        let _heard = self.clients[client].hear(&bytes[..bytes.len().saturating_sub(1)]);
+        let text = text_of(bytes);
+        let _heard = self.clients[client].hear(text);
         Ok(())
     }
 

