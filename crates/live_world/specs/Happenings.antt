@@ -1,6 +1,7 @@
 -- What each event does to the processes that are led.
 use Rattle.std.specs.Prelude.{◌≡◌, ◌⊎◌, ◌+◌, ◌-◌, ◌++◌, ℕ, List, [], ◌∷◌, drop, length, slice_get, slice_set, take, Option, None, Some}
 use Rattle.std.specs.Option.{option_to_list}
+use Rattle.ft_types.specs.declared.names.TheConstants.{HART_LIMIT}
 use Rattle.guest_image.specs.Image.{guest_of}
 use Rattle.fragment_codec.specs.declared.frame.Frame.{Frame}
 use Rattle.fragment_codec.specs.declared.frame.Frame.TheVariants.{Opening}
@@ -14,6 +15,7 @@ use Rattle.leading.specs.declared.heard.Heard.{Heard}
 use Rattle.requests.specs.Asking.{next_of, asked_again, had, heard, with_answer}
 use Rattle.requests.specs.declared.asker.Heard.TheVariants.{New as IsNew}
 use Rattle.asking.specs.Talks.{TalkView}
+use Rattle.wire.specs.Answers.{IsAnswer}
 use Rattle.wire.specs.declared.acknowledgements.Acknowledgement.{Acknowledgement}
 use Rattle.wire.specs.declared.answers.Answer.{Answer}
 use Rattle.wire.specs.declared.requests.Request.{Request}
@@ -151,11 +153,11 @@ abbrev pub AsksNext : List Request → TalkView → TalkView → Type 0
 AsksNext requests t u =
     (requests ≡ option_to_list (next_of t.asker)) × (u ≡ record t { asker = record t.asker { sent = t.asker.sent + length requests } })
 
--- an answer to what was asked and not answered yet is heard, and nothing else changes anything
+-- an answer of which a line tells, to what was asked and not answered yet, is heard, and nothing else changes anything
 abbrev pub HearsOne : Answer → TalkView → TalkView → Type 0
 HearsOne a t u =
-    ((heard t.asker a.output ≡ IsNew) × (u ≡ record t { asker = with_answer t.asker a.output })) ⊎
-    (((heard t.asker a.output ≡ IsNew) → ⊥) × (u ≡ t))
+    (IsAnswer HART_LIMIT a × (heard t.asker a.output ≡ IsNew) × (u ≡ record t { asker = with_answer t.asker a.output })) ⊎
+    ((IsAnswer HART_LIMIT a → heard t.asker a.output ≡ IsNew → ⊥) × (u ≡ t))
 
 -- the next answer is told, where it is there
 abbrev pub TellsNext : TalkView → TalkView → Type 0

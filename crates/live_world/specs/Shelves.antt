@@ -33,11 +33,11 @@ empty_shelf = record { files = files_of [] 0 0; hand = Nobody; read = None; cras
 abbrev pub hand_of : Stage → Hand
 hand_of stage.Nobody = Nobody
 hand_of (stage.Saw last) = Saw last
-hand_of (stage.HasFenced last term) = HasFenced term
+hand_of (stage.HasFenced put) = HasFenced put.term
 hand_of (stage.HasRead read) = Nobody
 
 abbrev pub read_view : LogRead → ReadView
-read_view read = record { term = read.term; log = read.log.items }
+read_view read = record { term = read.put.term; log = read.log.items }
 
 abbrev pub read_of : Stage → Option ReadView
 read_of (stage.HasRead read) = Some (read_view read)

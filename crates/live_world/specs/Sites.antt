@@ -25,7 +25,8 @@ site_at (s ∷ sites) (suc k) = site_at sites k
 abbrev pub disk_at : List (Option Site) → ℕ → Option Disk
 disk_at sites k = option_map disk_of (site_at sites k)
 
--- no call lasts: what was read was handed over, and no keeper is gone that is not known to be
-pub record IsAtRest (s : Site) : Type 0 where
+-- no call of this keeper lasts: what was read was handed over, and no keeper is gone that is not known to be
+pub record IsAtRest (keeper : ℕ) (s : Site) : Type 0 where
   pub handed : s.files.read ≡ None
   pub lives : s.files.crashed ≡ false
+  pub own : (st : StationView) → s.station ≡ Some st → st.keeper ≡ keeper

@@ -56,7 +56,7 @@ pub record IsWorldOf (v : LiveView) (w : ProcessWorld) : Type 0 where
   pub keepers : w.keepers ≡ v.quorum.keepers
   pub need : w.need ≡ v.quorum.need
   pub disks : (k : ℕ) → w.disks k ≡ disk_at v.sites k
-  pub at_rest : (k : ℕ) (s : Site) → site_at v.sites k ≡ Some s → IsAtRest s
+  pub at_rest : (k : ℕ) (s : Site) → site_at v.sites k ≡ Some s → IsAtRest k s
   pub frames : (f : Frame) → Contains v.frames f → Contains w.frames f
   pub said : (a : Acknowledgement) → Contains v.said a ↔ Contains w.said a
   pub handed : (h : HandedTo) → Contains v.handed h → IsHandedIn w h

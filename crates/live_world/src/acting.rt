@@ -1,6 +1,6 @@
 //! What tests do with three keepers, of whom two must hold an output, over a guest that says each word that it is given.
 
-use crate::event::{HandAct, LiveEvent, Planned};
+use crate::event::{ClientEvent, HandAct, KeeperEvent, LiveEvent, Planned, PrimaryEvent};
 use crate::fault::EventFault;
 use crate::world::LiveWorld;
 use ft_types::{Count, Keeper, Quorum, Term};
@@ -64,36 +64,40 @@ pub(crate) fn is_refused(
     }
 }
 
-/// A keeper takes whole batches, each in pieces of 7 bytes.
+/// A keeper takes the frames from this number on, in pieces of 7 bytes.
 pub(crate) fn takes(
     alloc: Global,
     world: &mut LiveWorld,
     number: u8,
-    batches: &[usize],
+    from: usize,
 ) -> Result<(), Fail> {
-    for batch in batches {
-        let to = match world.frames().get(*batch) {
-            Some(frames) => frames.len(),
-            None => return Err("a batch".into()),
-        };
-        let event = LiveEvent::Take {
-            keeper: keeper(number),
-            batch: *batch,
-            from: 0,
-            to,
-            piece: 7,
-        };
-        happens(alloc, world, event)?;
-    }
-    Ok(())
+    let event = KeeperEvent::Take {
+        keeper: keeper(number),
+        from,
+        to: world.frames().len(),
+        piece: 7,
+    };
+    happens(alloc, world, LiveEvent::Keeper(event))
+}
+
+/// A keeper begins, and between its acts this happens.
+pub(crate) fn beginning(alloc: Global, number: u8, plan: &[Planned]) -> Result<LiveEvent, Fail> {
+    Ok(LiveEvent::Keeper(KeeperEvent::Begin {
+        keeper: keeper(number),
+        plan: plan.to_vec(alloc)?,
+    }))
+}
+
+pub(crate) fn begins(alloc: Global, world: &mut LiveWorld, number: u8) -> Result<(), Fail> {
+    happens(alloc, world, beginning(alloc, number, &[])?)
 }
 
 /// A keeper's call between whose acts this happens.
 pub(crate) fn logging(alloc: Global, number: u8, plan: &[Planned]) -> Result<LiveEvent, Fail> {
-    Ok(LiveEvent::Log {
+    Ok(LiveEvent::Keeper(KeeperEvent::Log {
         keeper: keeper(number),
         plan: plan.to_vec(alloc)?,
-    })
+    }))
 }
 
 pub(crate) fn logs(alloc: Global, world: &mut LiveWorld, number: u8) -> Result<(), Fail> {
@@ -107,11 +111,11 @@ pub(crate) fn hands(
     acts: &[HandAct],
 ) -> Result<(), Fail> {
     for act in acts {
-        let event = LiveEvent::Hand {
+        let event = KeeperEvent::Hand {
             keeper: keeper(number),
             act: *act,
         };
-        happens(alloc, world, event)?;
+        happens(alloc, world, LiveEvent::Keeper(event))?;
     }
     Ok(())
 }
@@ -138,27 +142,54 @@ pub(crate) fn go_live(
     numbers: &[usize],
 ) -> Result<(), Fail> {
     let handed = numbers.to_vec(alloc)?;
-    happens(alloc, world, LiveEvent::GoLive { term, handed })
+    primary(alloc, world, PrimaryEvent::GoLive { term, handed })
+}
+
+/// What happens next to primaries.
+pub(crate) fn primary(
+    alloc: Global,
+    world: &mut LiveWorld,
+    event: PrimaryEvent,
+) -> Result<(), Fail> {
+    happens(alloc, world, LiveEvent::Primary(event))
+}
+
+/// What happens next to clients.
+pub(crate) fn client(alloc: Global, world: &mut LiveWorld, event: ClientEvent) -> Result<(), Fail> {
+    happens(alloc, world, LiveEvent::Client(event))
+}
+
+/// What was asked for last comes to a primary.
+pub(crate) fn is_asked(alloc: Global, world: &mut LiveWorld, number: usize) -> Result<(), Fail> {
+    let event = PrimaryEvent::Request {
+        primary: number,
+        asked: world.asked().len().saturating_sub(1),
+    };
+    primary(alloc, world, event)
 }
 
 /// A primary's round, and what it sends of it.
-pub(crate) fn goes_round(alloc: Global, world: &mut LiveWorld, primary: usize) -> Result<(), Fail> {
-    let event = LiveEvent::Round {
-        primary,
+pub(crate) fn goes_round(alloc: Global, world: &mut LiveWorld, number: usize) -> Result<(), Fail> {
+    let event = PrimaryEvent::Round {
+        primary: number,
         steps: STEPS,
         spacing: Spacing::Usual,
     };
-    happens(alloc, world, event)?;
-    happens(alloc, world, LiveEvent::Seal(primary))
+    primary(alloc, world, event)?;
+    primary(alloc, world, PrimaryEvent::Seal(number))
 }
 
 pub(crate) fn hears(
     alloc: Global,
     world: &mut LiveWorld,
-    primary: usize,
+    number: usize,
     said: usize,
 ) -> Result<(), Fail> {
-    happens(alloc, world, LiveEvent::Hear { primary, said })
+    let event = PrimaryEvent::Hear {
+        primary: number,
+        said,
+    };
+    primary(alloc, world, event)
 }
 
 /// How many outputs of a primary went out, and how many did not.
@@ -169,8 +200,7 @@ pub(crate) fn outputs(world: &LiveWorld, primary: usize) -> Option<(usize, usize
 
 /// What was told last: its term and its word.
 pub(crate) fn told_last(world: &LiveWorld) -> Option<(Term, u32)> {
-    let batch = world.told().last()?;
-    let answer = batch.last()?;
+    let answer = world.told().last()?;
     Some((answer.term, answer.output.word))
 }
 

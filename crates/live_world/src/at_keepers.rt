@@ -1,6 +1,6 @@
 //! What happens to keepers, and to whoever hands their logs over.
 
-ghost use Rattle.std.specs.Prelude.{◌≡◌, IfErr, OnOk};
+ghost use Rattle.std.specs.Prelude.{◌≡◌, ◌≤◌, ◌+◌, ◌++◌, None, Ok, Err, IfErr, OnOk, MatchResult, option_to_list, vec_len, vec_capacity};
 ghost use Rattle.live_world.specs.declared.event.KeeperEvent.TheVariants as on;
 ghost use Rattle.live_world.specs.Happenings.{KeeperHappens};
 ghost use Rattle.live_world.specs.Refusals.{KeeperRefuses, KeeperLeaves};
@@ -14,7 +14,31 @@ use crate::room::make_room;
 use crate::site::{put_site, take_site};
 use ft_types::Keeper;
 use std::alloc::Global;
+use std::option::Option;
 use std::result::Result;
+use wire::Acknowledgement;
+
+/// Puts it behind the others, where it is there.
+fn add_some<T: Drop>(items: &mut Vec<T>, one: Option<T>)
+    requires { vec_len items.old + 1 ≤ vec_capacity items.old }
+    ensures { items.new.items ≡ items.old.items ++ option_to_list one }
+{
+    if let Some(one) = one {
+        items.push_reserved(one);
+    }
+}
+
+/// What a keeper said, if anything, and whether it logged.
+fn parted(
+    logged: Result<Option<Acknowledgement>, EventFault>,
+) -> (Option<Acknowledgement>, Result<(), EventFault>)
+    ensures { MatchResult logged (λ said. (result.0 ≡ said) × (result.1 ≡ Ok tt)) (λ f. (result.0 ≡ None) × (result.1 ≡ Err f)) }
+{
+    match logged {
+        Ok(said) => (said, Ok(())),
+        Err(fault) => (None, Err(fault)),
+    }
+}
 
 impl LiveParts {
     /// A keeper begins; what was read of its log meanwhile is handed over.
@@ -34,16 +58,14 @@ impl LiveParts {
         let Some(mut site) = take_site(&mut self.sites, keeper) else {
             return Err(EventFault::NoKeeper);
         };
-        let begun = keepers::begin(alloc, guest, keeper, &mut site, plan);
-        if let Err(EventFault::Runs) = begun {
+        if site.station.is_some() {
             put_site(&mut self.sites, keeper, site);
-            return begun;
+            return Err(EventFault::Runs);
         }
+        let begun = keepers::begin(alloc, guest, keeper, &mut site, plan);
         let handed = keepers::handed(alloc, &guest, keeper, &mut site);
         put_site(&mut self.sites, keeper, site);
-        if let Some(handed) = handed? {
-            self.handed.push_reserved(handed);
-        }
+        add_some(&mut self.handed, handed?);
         begun
     }
 
@@ -91,23 +113,17 @@ impl LiveParts {
         let Some(mut site) = take_site(&mut self.sites, keeper) else {
             return Err(EventFault::NoKeeper);
         };
-        let logged = keepers::log(alloc, &mut site, plan);
-        if let Err(EventFault::Rests) = &logged {
+        if site.station.is_none() {
             put_site(&mut self.sites, keeper, site);
             return Err(EventFault::Rests);
         }
+        let logged = keepers::log(alloc, &mut site, plan);
         let handed = keepers::handed(alloc, &guest, keeper, &mut site);
         put_site(&mut self.sites, keeper, site);
-        if let Ok(Some(said)) = &logged {
-            self.said.push_reserved(*said);
-        }
-        if let Some(handed) = handed? {
-            self.handed.push_reserved(handed);
-        }
-        match logged {
-            Ok(_) => Ok(()),
-            Err(fault) => Err(fault),
-        }
+        let (said, done) = parted(logged);
+        add_some(&mut self.said, said);
+        add_some(&mut self.handed, handed?);
+        done
     }
 
     /// A keeper's process ends.
@@ -147,10 +163,10 @@ impl LiveParts {
         ensures left { IfErr result (λ f. KeeperLeaves self.old (on.Lose keeper) f self.new) }
         ensures goes { GoesTo self.old self.new }
     {
-        match take_site(&mut self.sites, keeper) {
-            Some(_) => Ok(()),
-            None => Err(EventFault::NoKeeper),
-        }
+        let Some(_lost) = take_site(&mut self.sites, keeper) else {
+            return Err(EventFault::NoKeeper);
+        };
+        Ok(())
     }
 
     /// Whoever hands a keeper's log over does this.
@@ -175,9 +191,7 @@ impl LiveParts {
         }
         let handed = keepers::handed(alloc, &self.image.guest(), keeper, &mut site);
         put_site(&mut self.sites, keeper, site);
-        if let Some(handed) = handed? {
-            self.handed.push_reserved(handed);
-        }
+        add_some(&mut self.handed, handed?);
         Ok(())
     }
 }

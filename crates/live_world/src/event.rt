@@ -112,10 +112,7 @@ pub enum PrimaryEvent {
 #[derive(Drop)]
 pub enum ClientEvent {
     /// A client comes, with words for hart 0, of which so many may be open.
-    Join {
-        words: Vec<u32>,
-        window: usize,
-    },
+    Join { words: Vec<u32>, window: usize },
     /// Whoever there is asks for something by hand.
     Want(Request),
     /// A client asks for its next word.
@@ -123,10 +120,7 @@ pub enum ClientEvent {
     /// A client asks once more.
     AskAgain(usize),
     /// What was told comes to a client.
-    Answer {
-        client: usize,
-        told: usize,
-    },
+    Answer { client: usize, told: usize },
     /// A client tells its next answer.
     Print(usize),
 }

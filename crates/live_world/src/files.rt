@@ -1,12 +1,14 @@
 //! A keeper's files in memory: what both processes do with them, and crashes between, is in what they tell.
 
-ghost use Rattle.std.specs.Prelude.{◌≡◌, ◌≤◌, false, true, length, take, None, Some, IfOk, IfErr, IfSome, IfNone, OnOk, OnErr, IsTrue, ◌↔◌};
+ghost use Rattle.std.specs.Prelude.{◌≡◌, false, take, None, Some, IfErr, IfSome, IfNone, OnOk, OnErr};
+ghost use Rattle.stations.specs.Acts.{Added};
+ghost use Rattle.stations.specs.Handshake.{Did, after};
 ghost use Rattle.live_world.specs.Shelves.{ShelfView, Besides, HandDoes, HasCrashed, IsNoTurn, empty_shelf, read_view};
 
 use crate::event::{HandAct, Meanwhile, Planned};
 use crate::fault::EventFault;
 use crate::hand::{Stage, copy_of, fenced};
-use crate::log_read::LogRead;
+use crate::log_read::{FencePut, LogRead};
 use ft_types::{Memory, Term};
 use stations::{FenceFault, FilesFault, KeeperFiles};
 use std::alloc::Global;
@@ -33,8 +35,8 @@ pub struct MemoryFiles {
 }
 
 impl Model for MemoryFiles {
-    ghost use Rattle.live_world.specs.Shelves.{ShelfView, files_of, hand_of, read_of};
     ghost use Rattle.std.specs.Prelude.{◌≤◌, length};
+    ghost use Rattle.live_world.specs.Shelves.{ShelfView, files_of, hand_of, read_of};
 
     ghost Value = { ShelfView };
 
@@ -126,7 +128,7 @@ impl MemoryFiles {
             Err(FenceFault::Files(_)) => return Err(EventFault::Memory),
         }
         self.fence = self.fence.max(term);
-        self.hand = Stage::HasFenced(last, term);
+        self.hand = Stage::HasFenced(FencePut { last, term });
         Ok(())
     }
 
@@ -136,11 +138,11 @@ impl MemoryFiles {
         ensures err { OnErr result (self.new ≡ self.old) }
         ensures why { IfErr result (IsNoTurn self.old HandAct.Reads) }
     {
-        let Stage::HasFenced(last, term) = self.hand else {
+        let Stage::HasFenced(put) = self.hand else {
             return Err(EventFault::NoTurn);
         };
         let log = copy_of(&self.log)?;
-        self.hand = Stage::HasRead(LogRead { last, term, log });
+        self.hand = Stage::HasRead(LogRead { put, log });
         Ok(())
     }
 
@@ -200,7 +202,10 @@ impl MemoryFiles {
         ensures does { result ≡ Turn.Does → self.new.crashed ≡ false }
     {
         let mut turn = Turn::Does;
-        while let Some(what) = self.next_planned() {
+        for _ in 0..self.plan.len() {
+            let Some(what) = self.next_planned() else {
+                break;
+            };
             match what {
                 Meanwhile::Hand(act) => {
                     let _done = self.hand_does(alloc, act);
@@ -219,12 +224,21 @@ impl MemoryFiles {
         turn
     }
 
+    /// The bytes are added to the log, or none of them.
+    fn append(&mut self, bytes: &[u8]) -> Result<(), Memory>
+        ensures ok { OnOk result (self.new ≡ record self.old { files = after self.old.files (Did (Added bytes.now)) }) }
+        ensures err { OnErr result (self.new ≡ self.old) }
+    {
+        self.log.extend_from_slice(bytes)?;
+        Ok(())
+    }
+
     /// What is planned behind the keeper's last act happens.
     pub(crate) fn end_plan(&mut self, alloc: Global)
         ensures { Besides self.old self.new }
     {
         self.acted = usize::MAX;
-        while self.plan.len() > 0 {
+        for _ in 0..self.plan.len() {
             let _turn = self.come_to_turn(alloc);
         }
     }
@@ -247,10 +261,8 @@ impl KeeperFiles for MemoryFiles {
         if let Turn::Fails(_) = self.come_to_turn(alloc) {
             return Err(FilesFault::Log);
         }
-        match copy_of(&self.log) {
-            Ok(read) => Ok(read),
-            Err(Memory) => Err(FilesFault::Memory),
-        }
+        let read = copy_of(&self.log)?;
+        Ok(read)
     }
 
     fn cut(&mut self, size: usize) -> Result<(), FilesFault> {
@@ -265,16 +277,19 @@ impl KeeperFiles for MemoryFiles {
 
     fn add(&mut self, bytes: &[u8]) -> Result<(), FilesFault> {
         let alloc = *self.log.allocator();
-        let (front, done) = match self.come_to_turn(alloc) {
-            Turn::Does => (bytes.len(), Ok(())),
-            Turn::Fails(front) => (front.min(bytes.len()), Err(FilesFault::Log)),
-        };
-        if self.crashed {
-            return done;
-        }
-        match self.log.extend_from_slice(&bytes[..front]) {
-            Ok(()) => done,
-            Err(_) => Err(FilesFault::Memory),
+        match self.come_to_turn(alloc) {
+            Turn::Does => {
+                self.append(bytes)?;
+                Ok(())
+            }
+            Turn::Fails(front) => {
+                if self.crashed {
+                    return Err(FilesFault::Log);
+                }
+                let front = &bytes[..front.min(bytes.len())];
+                self.append(front)?;
+                Err(FilesFault::Log)
+            }
         }
     }
 

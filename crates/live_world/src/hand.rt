@@ -4,10 +4,11 @@ ghost use Rattle.std.specs.Prelude.{◌≡◌, ◌<◌, IfOk, IfErr, OnOk};
 ghost use Rattle.live_world.specs.Hands.{HasHanded, IsNotFencedOff, IsNotRead};
 ghost use Rattle.live_world.specs.Shelves.{read_view};
 
-use crate::log_read::LogRead;
+use crate::log_read::{FencePut, LogRead};
 use ft_types::{Guest, Keeper, Memory, Term};
 use stations::{FenceFault, FencedLog, FilesFault, HandedOver, KeeperFiles, LogFault, fence_off};
 use std::alloc::Global;
+use std::mem;
 use std::result::Result;
 
 /// Where whoever hands a log over stands.
@@ -17,13 +18,13 @@ pub enum Stage {
     Nobody,
     /// It saw this last fence.
     Saw(Term),
-    /// It saw the one fence, and put the other.
-    HasFenced(Term, Term),
+    /// It put a fence.
+    HasFenced(FencePut),
     /// Behind those it read the log.
     HasRead(LogRead),
 }
 
-/// The files as whoever hands a log over saw them: the last fence, and the log where it was read.
+/// The files as whoever hands a log over saw them: the last fence, and the log, which it reads once.
 #[derive(Drop)]
 pub(crate) struct SeenFiles {
     last: Term,
@@ -42,11 +43,8 @@ impl KeeperFiles for SeenFiles {
 
     ghost acts = { λ files done. TellsSeen files.last files.log.items done };
 
-    fn read_log(&mut self, _alloc: Global) -> Result<Vec<u8>, FilesFault> {
-        match copy_of(&self.log) {
-            Ok(read) => Ok(read),
-            Err(Memory) => Err(FilesFault::Memory),
-        }
+    fn read_log(&mut self, alloc: Global) -> Result<Vec<u8>, FilesFault> {
+        Ok(mem::replace(&mut self.log, Vec::new(alloc)))
     }
 
     fn cut(&mut self, _size: usize) -> Result<(), FilesFault> {
@@ -109,7 +107,10 @@ pub(crate) fn hand_over(
     ensures handed { IfOk result (λ handed. HasHanded guest.now keeper (read_view read) handed) }
     ensures refused { IfErr result (λ f. IsNotRead guest.now (read_view read) f) }
 {
-    let LogRead { last, term, log } = read;
+    let LogRead {
+        put: FencePut { last, term },
+        log,
+    } = read;
     let fenced = match fenced(alloc, last, term, log) {
         Ok(fenced) => fenced,
         Err(_) => return Err(LogFault::Files(FilesFault::Memory)),

@@ -1,9 +1,10 @@
 //! What happens at a keeper's machine.
 
-ghost use Rattle.std.specs.Prelude.{◌≡◌, ◌⊎◌, ℕ, IfOk, IfErr, IfSome, IfNone, OnOk, OnErr, Some, None, take};
-ghost use Rattle.std.specs.List.{AllByRecursion, flat_map};
-ghost use Rattle.fragment_codec.specs.Streams.{IsFrame, spelling};
-ghost use Rattle.live_world.specs.Calls.{BeginsNot, CrashesAt, HandsRead, HasBegun, HasLogged, LogsNot, IsNotHandedOver, TakesAll, TakesNot};
+ghost use Rattle.std.specs.Prelude.{◌≡◌, List, [], IfOk, IfErr, OnOk, None};
+ghost use Rattle.std.specs.List.{flat_map};
+ghost use Rattle.fragment_codec.specs.declared.frame.Frame.{Frame as LogFrame};
+ghost use Rattle.fragment_codec.specs.Streams.{Splits, spelling};
+ghost use Rattle.live_world.specs.Calls.{BeginsNot, CrashesAt, HandsRead, HasBegun, HasLogged, IsNotHandedOver, Leaves, LogsNot, TakesAll, TakesNot};
 
 use crate::event::Planned;
 use crate::fault::EventFault;
@@ -16,6 +17,16 @@ use std::alloc::Global;
 use std::option::Option;
 use std::result::Result;
 use wire::Acknowledgement;
+
+/// A keeper's call is over, and leaves this process: what is planned behind its last act happens, and where the machine crashed the process is gone.
+fn leave(alloc: Global, site: &mut Site, station: Option<KeeperStation>)
+    ensures { Leaves site.old [] station site.new }
+{
+    site.files.end_plan(alloc);
+    let crashed = site.files.end_call();
+    let left = if crashed { None } else { station };
+    site.station = left;
+}
 
 /// The keeper begins, or comes back; between its acts this happens.
 pub(crate) fn begin(
@@ -32,23 +43,23 @@ pub(crate) fn begin(
         return Err(EventFault::Runs);
     }
     site.files.plan(plan);
-    let begun = KeeperStation::begin(alloc, guest, keeper, &mut site.files);
-    site.files.end_plan(alloc);
-    let crashed = site.files.end_call();
-    match begun {
+    match KeeperStation::begin(alloc, guest, keeper, &mut site.files) {
         Ok(station) => {
-            if !crashed {
-                site.station = Some(station);
-            }
+            leave(alloc, site, Some(station));
             Ok(())
         }
-        Err(fault) => Err(EventFault::Log(fault)),
+        Err(fault) => {
+            leave(alloc, site, None);
+            Err(EventFault::Log(fault))
+        }
     }
 }
 
 /// The bytes of frames.
 fn stream_of(alloc: Global, frames: &[Frame]) -> Result<Vec<u8>, Memory>
-    ensures { IfOk result (λ bytes. bytes.items ≡ flat_map spelling frames.now) }
+    ensures bytes { IfOk result (λ bytes. bytes.items ≡ flat_map spelling frames.now) }
+    // They are these frames and nothing else.
+    ensures splits { IfOk result (λ bytes. Splits bytes.items frames.now []) }
 {
     let mut sink = MemorySink::new(alloc, usize::MAX);
     for frame in frames {
@@ -74,7 +85,9 @@ fn take_all(alloc: Global, site: &mut Site, frames: Vec<WrittenFrame>) -> Result
 }
 
 /// The fault of a stream of frames.
-fn fault_of(fault: FrameFault) -> EventFault {
+fn fault_of(fault: FrameFault) -> EventFault
+    ensures { fault ≡ FrameFault.Memory → result ≡ EventFault.Memory }
+{
     match fault {
         FrameFault::Memory => EventFault::Memory,
         fault => EventFault::Frame(fault),
@@ -82,12 +95,10 @@ fn fault_of(fault: FrameFault) -> EventFault {
 }
 
 /// The keeper takes the frames of a stream that comes in pieces of so many bytes.
-fn take_stream(
-    alloc: Global,
-    site: &mut Site,
-    stream: &[u8],
-    size: usize,
-) -> Result<(), EventFault> {
+fn take_stream(alloc: Global, site: &mut Site, stream: &[u8], size: usize) -> Result<(), EventFault>
+    ensures taken { (frames : List LogFrame) → Splits stream.now frames [] → OnOk result (TakesAll frames site.old site.new) }
+    ensures some { (frames : List LogFrame) → Splits stream.now frames [] → IfErr result (λ f. TakesNot frames site.old f site.new) }
+{
     let mut feed = WrittenFeed::new(alloc)?;
     for piece in stream.chunks(size.max(1)) {
         match feed.push(alloc, piece) {
@@ -131,17 +142,15 @@ pub(crate) fn log(
         return Err(EventFault::Rests);
     };
     site.files.plan(plan);
-    let logged = station.log_and_acknowledge(alloc, &mut site.files);
-    site.files.end_plan(alloc);
-    let crashed = site.files.end_call();
-    match logged {
+    match station.log_and_acknowledge(alloc, &mut site.files) {
         Ok((station, said)) => {
-            if !crashed {
-                site.station = Some(station);
-            }
+            leave(alloc, site, Some(station));
             Ok(said)
         }
-        Err(fault) => Err(EventFault::Files(fault)),
+        Err(fault) => {
+            leave(alloc, site, None);
+            Err(EventFault::Files(fault))
+        }
     }
 }
 

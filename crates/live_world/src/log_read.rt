@@ -1,17 +1,24 @@
-//! What whoever hands a log over has read of it.
+//! What whoever hands a log over put and read.
 
 ghost use Rattle.std.specs.Prelude.{◌<◌};
 
 use ft_types::Term;
 
-/// What whoever hands a log over has read of it.
+/// A fence that whoever hands a log over put.
+#[derive(Clone, Copy)]
+pub struct FencePut {
+    /// The last fence that it saw before.
+    pub last: Term,
+    /// The term of its own.
+    pub term: Term,
+    ghost above: { last < term },
+}
+
+/// What whoever hands the log over has read of it.
 #[derive(Drop)]
 pub struct LogRead {
-    /// The last fence that it saw before it put its own.
-    pub last: Term,
-    /// The term of the fence that it put.
-    pub term: Term,
+    /// The fence that it put before.
+    pub put: FencePut,
     /// The bytes that the log had behind that.
     pub log: Vec<u8>,
-    ghost above: { last < term },
 }

@@ -1,6 +1,7 @@
 //! A keeper's machine: its files, and its process where that runs.
 
-ghost use Rattle.std.specs.Prelude.{◌≡◌, ◌<◌, length, replicate, slice_get, slice_set, None, Some, IfOk, IfSome, IfNone};
+ghost use Rattle.std.specs.Prelude.{◌≡◌, ◌<◌, length, replicate, slice_set, None, Some, IfOk, IfSome, IfNone};
+ghost use Rattle.ft_types.specs.declared.names.TheConstants.{KEEPER_LIMIT};
 ghost use Rattle.live_world.specs.Sites.{empty_site, site_at};
 
 use crate::files::MemoryFiles;
@@ -24,7 +25,7 @@ pub(crate) fn empty_sites(alloc: Global, keepers: u8) -> Result<Vec<Option<Site>
     ensures { IfOk result (λ sites. sites.items ≡ replicate keepers (Some empty_site)) }
 {
     let mut sites = Vec::new(alloc);
-    for _ in 0..keepers {
+    for _made in 0..keepers {
         sites.push(Some(Site {
             files: MemoryFiles::new(alloc),
             station: None,
@@ -37,6 +38,7 @@ pub(crate) fn empty_sites(alloc: Global, keepers: u8) -> Result<Vec<Option<Site>
 pub(crate) fn take_site(sites: &mut Vec<Option<Site>>, keeper: Keeper) -> Option<Site>
     ensures some { IfSome result (λ site. (site_at sites.old.items keeper ≡ Some site) × (sites.new.items ≡ slice_set sites.old.items keeper None)) }
     ensures within { IfSome result (λ site. keeper < length sites.old.items) }
+    ensures named { IfSome result (λ site. keeper < KEEPER_LIMIT) }
     ensures none { IfNone result ((site_at sites.old.items keeper ≡ None) × (sites.new.items ≡ sites.old.items)) }
 {
     if keeper.index() >= sites.len() {

@@ -1,10 +1,13 @@
 //! Lists of events, followed by hand.
 
 use crate::acting::{
-    FIRST, SECOND, THIRD, gives, go_live, goes_round, hands, happens, hears, is_refused, keeper,
-    logging, logs, outputs, sizes, takes, told_last, world_of,
+    FIRST, SECOND, THIRD, beginning, begins, client, gives, go_live, goes_round, hands, happens,
+    hears, is_asked, is_refused, keeper, logging, logs, outputs, primary, sizes, takes, told_last,
+    world_of,
 };
-use crate::event::{HandAct, LiveEvent, Meanwhile, Planned};
+use crate::event::{
+    ClientEvent, HandAct, KeeperEvent, LiveEvent, Meanwhile, Planned, PrimaryEvent,
+};
 use crate::fault::EventFault;
 use crate::world::LiveWorld;
 use fenced_live::GivenFault;
@@ -18,26 +21,21 @@ use std::test::Fail;
 use wire::Request;
 
 /// All keepers begin, their logs are handed over to term 1, and its primary goes live from the first two. A client asks for the word 7, of which its
-/// round tells: batch 0 is the opening, batch 1 the log of that round.
+/// round tells: frame 0 is the opening, the others are the log of that round.
 fn first_term(alloc: Global) -> Result<LiveWorld, Fail> {
     let mut world = world_of(alloc)?;
     for number in [FIRST, SECOND, THIRD] {
-        happens(alloc, &mut world, LiveEvent::Begin(keeper(number)))?;
+        begins(alloc, &mut world, number)?;
         gives(alloc, &mut world, number, 1)?;
     }
     go_live(alloc, &mut world, 1, &[0, 1])?;
     let words = [7].to_vec(alloc)?;
-    happens(alloc, &mut world, LiveEvent::Join { words, window: 1 })?;
-    happens(alloc, &mut world, LiveEvent::Ask(0))?;
-    let event = LiveEvent::Request {
-        primary: 0,
-        batch: 0,
-        number: 0,
-    };
-    happens(alloc, &mut world, event)?;
+    client(alloc, &mut world, ClientEvent::Join { words, window: 1 })?;
+    client(alloc, &mut world, ClientEvent::Ask(0))?;
+    is_asked(alloc, &mut world, 0)?;
     goes_round(alloc, &mut world, 0)?;
-    takes(alloc, &mut world, FIRST, &[0, 1])?;
-    takes(alloc, &mut world, SECOND, &[0, 1])?;
+    takes(alloc, &mut world, FIRST, 0)?;
+    takes(alloc, &mut world, SECOND, 0)?;
     Ok(world)
 }
 
@@ -67,7 +65,7 @@ fn second_term(alloc: Global) -> Result<LiveWorld, Fail> {
         SECOND,
         &[HandAct::Looks, HandAct::Fences(2)],
     )?;
-    happens(alloc, &mut world, LiveEvent::Begin(keeper(SECOND)))?;
+    begins(alloc, &mut world, SECOND)?;
     gives(alloc, &mut world, THIRD, 2)?;
     hands(alloc, &mut world, SECOND, &[HandAct::Reads])?;
     go_live(alloc, &mut world, 2, &[3, 4])?;
@@ -76,8 +74,9 @@ fn second_term(alloc: Global) -> Result<LiveWorld, Fail> {
 
 /// The keepers of term 2 take what it was given and its opening, and log that.
 fn second_is_held(alloc: Global, world: &mut LiveWorld) -> Result<(), Fail> {
-    takes(alloc, world, SECOND, &[2])?;
-    takes(alloc, world, THIRD, &[0, 1, 2])?;
+    let opening = world.frames().len().saturating_sub(1);
+    takes(alloc, world, SECOND, opening)?;
+    takes(alloc, world, THIRD, 0)?;
     logs(alloc, world, SECOND)?;
     logs(alloc, world, THIRD)?;
     hears(alloc, world, 1, 1)?;
@@ -86,13 +85,12 @@ fn second_is_held(alloc: Global, world: &mut LiveWorld) -> Result<(), Fail> {
 
 /// The client hears what was told last, and tells it.
 fn client_hears(alloc: Global, world: &mut LiveWorld) -> Result<Option<usize>, Fail> {
-    let event = LiveEvent::Answer {
+    let event = ClientEvent::Answer {
         client: 0,
-        batch: world.told().len().saturating_sub(1),
-        number: 0,
+        told: world.told().len().saturating_sub(1),
     };
-    happens(alloc, world, event)?;
-    happens(alloc, world, LiveEvent::Print(0))?;
+    client(alloc, world, event)?;
+    client(alloc, world, ClientEvent::Print(0))?;
     Ok(world.clients().first().map(|client| client.told()))
 }
 
@@ -111,11 +109,11 @@ fn a_word_that_no_term_told_goes_out_in_the_next(rt: HostRuntime) -> Result<(), 
     // The older primary goes on, alone.
     goes_round(alloc, &mut world, 0)?;
     assert!(rt; outputs(&world, 0) == Some((0, 1)));
-    let event = LiveEvent::Tell {
+    let event = PrimaryEvent::Tell {
         primary: 1,
         released: 0,
     };
-    happens(alloc, &mut world, event)?;
+    primary(alloc, &mut world, event)?;
     assert!(rt; told_last(&world) == Some((2, 7)));
     assert!(rt; client_hears(alloc, &mut world)? == Some(1));
     Ok(())
@@ -186,7 +184,7 @@ const BEFORE_SYNC: &[Planned] = &[Planned {
 /// A keeper begins once more, where its log had so many bytes, and has none.
 fn begins_again(alloc: Global, world: &mut LiveWorld, had: usize) -> Result<bool, Fail> {
     let torn = log_of(world, FIRST) == Some((had, 0));
-    happens(alloc, world, LiveEvent::Begin(keeper(FIRST)))?;
+    begins(alloc, world, FIRST)?;
     Ok(torn && log_of(world, FIRST) == Some((0, 0)))
 }
 
@@ -197,7 +195,7 @@ fn a_torn_log_is_cut(rt: HostRuntime) -> Result<(), Fail> {
     let event = logging(alloc, FIRST, TORN)?;
     assert!(rt; is_refused(alloc, &mut world, event, EventFault::Files(FilesFault::Log)));
     assert!(rt; begins_again(alloc, &mut world, 5)?);
-    takes(alloc, &mut world, FIRST, &[0, 1])?;
+    takes(alloc, &mut world, FIRST, 0)?;
     let event = logging(alloc, FIRST, BEFORE_SYNC)?;
     assert!(rt; is_refused(alloc, &mut world, event, EventFault::Files(FilesFault::Log)));
     assert!(rt; begins_again(alloc, &mut world, 9)?);
@@ -213,76 +211,73 @@ fn what_is_left_happens_once(rt: HostRuntime) -> Result<(), Fail> {
     hears(alloc, &mut world, 0, 0)?;
     hears(alloc, &mut world, 0, 1)?;
     assert!(rt; outputs(&world, 0) == Some((1, 0)));
-    happens(alloc, &mut world, LiveEvent::AskAgain(0))?;
+    client(alloc, &mut world, ClientEvent::AskAgain(0))?;
     let request = Request::From {
         hart: Hart::new(0),
         number: 0,
     };
-    happens(alloc, &mut world, LiveEvent::Want(request))?;
-    let event = LiveEvent::Request {
-        primary: 0,
-        batch: 2,
-        number: 0,
-    };
-    happens(alloc, &mut world, event)?;
+    client(alloc, &mut world, ClientEvent::Want(request))?;
+    is_asked(alloc, &mut world, 0)?;
     assert!(rt; told_last(&world) == Some((1, 7)));
-    let event = LiveEvent::Crash {
+    let event = KeeperEvent::Crash {
         keeper: keeper(FIRST),
         left: 0,
     };
+    happens(alloc, &mut world, LiveEvent::Keeper(event))?;
+    let event = LiveEvent::Keeper(KeeperEvent::KeeperEnds(keeper(SECOND)));
     happens(alloc, &mut world, event)?;
-    happens(alloc, &mut world, LiveEvent::KeeperEnds(keeper(SECOND)))?;
-    happens(alloc, &mut world, LiveEvent::Lose(keeper(THIRD)))?;
+    happens(
+        alloc,
+        &mut world,
+        LiveEvent::Keeper(KeeperEvent::Lose(keeper(THIRD))),
+    )?;
     hands(alloc, &mut world, FIRST, &[HandAct::Looks, HandAct::Ends])?;
-    happens(alloc, &mut world, LiveEvent::End(0))?;
     assert!(rt; outputs(&world, 0) == Some((1, 0)));
+    primary(alloc, &mut world, PrimaryEvent::End(0))?;
+    assert!(rt; outputs(&world, 0) == None);
     Ok(())
 }
 
-fn take_of(number: u8, batch: usize) -> LiveEvent {
-    LiveEvent::Take {
+fn take_of(number: u8, from: usize) -> LiveEvent {
+    LiveEvent::Keeper(KeeperEvent::Take {
         keeper: keeper(number),
-        batch,
-        from: 0,
-        to: 1,
+        from,
+        to: from.saturating_add(1),
         piece: 1,
-    }
+    })
 }
 
 fn hand_of(number: u8, act: HandAct) -> LiveEvent {
-    LiveEvent::Hand {
+    LiveEvent::Keeper(KeeperEvent::Hand {
         keeper: keeper(number),
         act,
-    }
+    })
 }
 
 fn live_of(alloc: Global, term: Term, numbers: &[usize]) -> Result<LiveEvent, Fail> {
-    Ok(LiveEvent::GoLive {
+    Ok(LiveEvent::Primary(PrimaryEvent::GoLive {
         term,
         handed: numbers.to_vec(alloc)?,
-    })
+    }))
 }
 
 /// Whether each event of keepers is refused so.
 fn keepers_are_refused(alloc: Global, world: &mut LiveWorld) -> Result<bool, Fail> {
+    let none = LiveEvent::Keeper(KeeperEvent::Lose(keeper(4)));
     let lost = is_refused(
         alloc,
         world,
-        LiveEvent::Begin(keeper(4)),
+        beginning(alloc, 4, &[])?,
         EventFault::NoKeeper,
-    ) && is_refused(
-        alloc,
-        world,
-        LiveEvent::Lose(keeper(4)),
-        EventFault::NoKeeper,
-    );
+    ) && is_refused(alloc, world, none, EventFault::NoKeeper);
     let runs = is_refused(
         alloc,
         world,
-        LiveEvent::Begin(keeper(FIRST)),
+        beginning(alloc, FIRST, &[])?,
         EventFault::Runs,
     );
-    happens(alloc, world, LiveEvent::KeeperEnds(keeper(THIRD)))?;
+    let event = LiveEvent::Keeper(KeeperEvent::KeeperEnds(keeper(THIRD)));
+    happens(alloc, world, event)?;
     let rests = is_refused(alloc, world, take_of(THIRD, 0), EventFault::Rests)
         && is_refused(alloc, world, logging(alloc, THIRD, &[])?, EventFault::Rests);
     let no_frame = is_refused(alloc, world, take_of(FIRST, 9), EventFault::NoFrame);
@@ -302,8 +297,8 @@ fn keepers_are_refused(alloc: Global, world: &mut LiveWorld) -> Result<bool, Fai
     Ok(lost && runs && rests && no_frame && no_turn && fenced)
 }
 
-/// Whether each event of primaries is refused so.
-fn primaries_are_refused(alloc: Global, world: &mut LiveWorld) -> Result<bool, Fail> {
+/// Whether no primary goes live so.
+fn none_goes_live(alloc: Global, world: &mut LiveWorld) -> Result<bool, Fail> {
     let granted = is_refused(
         alloc,
         world,
@@ -320,26 +315,32 @@ fn primaries_are_refused(alloc: Global, world: &mut LiveWorld) -> Result<bool, F
     let lead = is_refused(alloc, world, live_of(alloc, 2, &[])?, few);
     let other = EventFault::Lead(LeadFault::NotLive(GivenFault::OtherTerm));
     let term = is_refused(alloc, world, live_of(alloc, 2, &[0, 1])?, other);
-    let asked = LiveEvent::Request {
+    Ok(granted && none && lead && term)
+}
+
+/// Whether each event of primaries is refused so.
+fn primaries_are_refused(alloc: Global, world: &mut LiveWorld) -> Result<bool, Fail> {
+    let asked = LiveEvent::Primary(PrimaryEvent::Request {
         primary: 0,
-        batch: 9,
-        number: 0,
-    };
+        asked: 9,
+    });
     let none_asked = is_refused(alloc, world, asked, EventFault::NoneAsked);
-    let said = LiveEvent::Hear {
+    let said = LiveEvent::Primary(PrimaryEvent::Hear {
         primary: 0,
         said: 9,
-    };
+    });
     let none_said = is_refused(alloc, world, said, EventFault::NoneSaid);
-    let out = LiveEvent::Tell {
+    let out = LiveEvent::Primary(PrimaryEvent::Tell {
         primary: 0,
         released: 0,
-    };
+    });
     let none_out = is_refused(alloc, world, out, EventFault::NoneOut);
-    happens(alloc, world, LiveEvent::End(0))?;
-    let gone = is_refused(alloc, world, LiveEvent::Seal(0), EventFault::NoPrimary)
-        && is_refused(alloc, world, LiveEvent::End(0), EventFault::NoPrimary);
-    Ok(granted && none && lead && term && none_asked && none_said && none_out && gone)
+    primary(alloc, world, PrimaryEvent::End(0))?;
+    let seal = LiveEvent::Primary(PrimaryEvent::Seal(0));
+    let end = LiveEvent::Primary(PrimaryEvent::End(0));
+    let gone = is_refused(alloc, world, seal, EventFault::NoPrimary)
+        && is_refused(alloc, world, end, EventFault::NoPrimary);
+    Ok(none_asked && none_said && none_out && gone)
 }
 
 #[test]
@@ -347,14 +348,13 @@ fn each_refusal(rt: HostRuntime) -> Result<(), Fail> {
     let alloc = rt.alloc();
     let mut world = first_term(alloc)?;
     assert!(rt; keepers_are_refused(alloc, &mut world)?);
+    assert!(rt; none_goes_live(alloc, &mut world)?);
     assert!(rt; primaries_are_refused(alloc, &mut world)?);
-    let answer = LiveEvent::Answer {
-        client: 0,
-        batch: 9,
-        number: 0,
-    };
+    let answer = LiveEvent::Client(ClientEvent::Answer { client: 0, told: 9 });
     assert!(rt; is_refused(alloc, &mut world, answer, EventFault::NoneTold));
-    assert!(rt; is_refused(alloc, &mut world, LiveEvent::Ask(9), EventFault::NoClient));
-    assert!(rt; is_refused(alloc, &mut world, LiveEvent::Print(9), EventFault::NoClient));
+    let ask = LiveEvent::Client(ClientEvent::Ask(9));
+    assert!(rt; is_refused(alloc, &mut world, ask, EventFault::NoClient));
+    let print = LiveEvent::Client(ClientEvent::Print(9));
+    assert!(rt; is_refused(alloc, &mut world, print, EventFault::NoClient));
     Ok(())
 }

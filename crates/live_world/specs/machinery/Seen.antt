@@ -1,13 +1,15 @@
 -- What the files tell that whoever hands a log over saw. Machinery: nothing here needs to be believed.
-use Rattle.std.specs.Prelude.{◌≡◌, ◌++◌, ℕ, List, [], ◌∷◌, All}
-use Rattle.stations.specs.Acts.{Act, SawLog, SawFence}
+use Rattle.std.specs.Prelude.{◌≡◌, ℕ, List, [], ◌∷◌}
+use Rattle.stations.specs.Acts.{Act, SawLog, SawFence, Failed}
 
--- it is the one log and the one fence
-abbrev pub IsOfSeen : ℕ → List ℕ → Act → Type 0
-IsOfSeen last log (SawLog bytes) = bytes ≡ log
-IsOfSeen last log (SawFence fence) = fence ≡ last
-IsOfSeen last log other = Unit {0}
+-- behind these acts this is left of a log that is read once; each sees what is there, and none fails
+abbrev pub LeavesSeen : ℕ → List ℕ → List Act → List ℕ → Type 0
+LeavesSeen last log [] left = left ≡ log
+LeavesSeen last log (SawLog bytes ∷ acts) left = (bytes ≡ log) × LeavesSeen last [] acts left
+LeavesSeen last log (SawFence fence ∷ acts) left = (fence ≡ last) × LeavesSeen last log acts left
+LeavesSeen last log (Failed fault ∷ acts) left = ⊥
+LeavesSeen last log (other ∷ acts) left = LeavesSeen last log acts left
 
--- both are told first
+-- the log and the fence are told first
 abbrev pub TellsSeen : ℕ → List ℕ → List Act → Type 0
-TellsSeen last log done = (acts : List Act) × (done ≡ SawLog log ∷ SawFence last ∷ acts) × All (IsOfSeen last log) acts
+TellsSeen last left done = (log : List ℕ) × (acts : List Act) × (done ≡ SawLog log ∷ SawFence last ∷ acts) × LeavesSeen last log acts left

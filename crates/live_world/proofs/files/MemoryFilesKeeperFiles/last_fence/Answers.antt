@@ -1,0 +1,13 @@
+use Rattle.std.proofs.Common.{ap}
+use Rattle.live_world.specs.Shelves.{ShelfView}
+use Rattle.live_world.proofs.Telling.{tells}
+use Rattle.live_world.proofs.Filing.{does_turn, failed, saw_fence}
+use Rattle.live_world.proofs.files.MemoryFilesKeeperFiles.last_fence.Goals as goal
+
+pub returns-in-Fails-clause-failed : goal.returns-in-Fails-clause-failed
+returns-in-Fails-clause-failed c = tells c.come_to_turn.ensures.besides (failed _ _)
+
+pub returns-clause-ok : goal.returns-clause-ok
+returns-clause-ok c =
+    let lives = c.come_to_turn.ensures.does (does_turn _ c.in_default.not-Fails) in
+    tells c.come_to_turn.ensures.besides (saw_fence _ _ lives (ap (λ (x : ShelfView). x.files.fence) c.self.view_is))
