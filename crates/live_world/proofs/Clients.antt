@@ -84,9 +84,11 @@ asks_goes v u n t s more (Some r) is_next there one new clients rest =
     let now : TalkView = record t { asker = record t.asker { sent = t.asker.sent + 1 } } in
     let same : now ≡ s = ap (λ (k : ℕ). record t { asker = record t.asker { sent = t.asker.sent + k } }) (sym sent) ∙ sym new in
     let both : slice_set w.clients n now ≡ u.clients =
-    ap (λ (all : List TalkView). slice_set all n now) is.clients ∙ ap (λ (x : TalkView). slice_set v.clients n x) same ∙ sym clients in
-    (record w { clients = slice_set w.clients n now; asked = r ∷ w.asked }, once (Asks n t r (talks is n t there) is_next),
-    asked_both is u (slice_set w.clients n now) (r ∷ []) (rest ∙ ap (λ (l : List Request). record v { clients = u.clients; asked = v.asked ++ l }) one) both)
+    ap (λ (all : List TalkView). slice_set all n now) is.clients ∙ ap (λ (x : TalkView). slice_set v.clients n x) same ∙ sym clients in (
+      record w { clients = slice_set w.clients n now; asked = r ∷ w.asked },
+      once (Asks n t r (talks is n t there) is_next),
+      asked_both is u (slice_set w.clients n now) (r ∷ []) (rest ∙ ap (λ (l : List Request). record v { clients = u.clients; asked = v.asked ++ l }) one) both,
+    )
 
 -- an answer may be heard
 answer_goes : (v u : LiveView) (n : ℕ) (t s : TalkView) (a : Answer) → Contains v.told a → slice_get v.clients n ≡ Some t → HearsOne a t s →
@@ -95,9 +97,11 @@ answer_goes v u n t s a told there (inl (says, new, now)) clients rest =
     λ w comes is.
     let heard : TalkView = record t { asker = with_answer t.asker a.output } in
     let both : slice_set w.clients n heard ≡ u.clients =
-    ap (λ (all : List TalkView). slice_set all n heard) is.clients ∙ ap (λ (x : TalkView). slice_set v.clients n x) (sym now) ∙ sym clients in
-    (record w { clients = slice_set w.clients n heard }, once (HearsAnswer n t a (talks is n t there) ((is.told a).0 told) new),
-    clients_both is u (slice_set w.clients n heard) rest both)
+    ap (λ (all : List TalkView). slice_set all n heard) is.clients ∙ ap (λ (x : TalkView). slice_set v.clients n x) (sym now) ∙ sym clients in (
+      record w { clients = slice_set w.clients n heard },
+      once (HearsAnswer n t a (talks is n t there) ((is.told a).0 told) new),
+      clients_both is u (slice_set w.clients n heard) rest both,
+    )
 answer_goes v u n t s a told there (inr (unheard, same)) clients rest = goes_nowhere (as_it_was v u n t s there clients same rest)
 
 -- an answer may be told
@@ -115,24 +119,30 @@ print_goes v u n t s there (inr (word, had, now)) clients rest =
 pub client_goes : (v u : LiveView) (event : ClientEvent) → ClientHappens v event u → GoesTo v u
 client_goes v u (c.Join words window) (t, none, own, most, rest) =
     λ w comes is.
-    let more : u.clients ≡ v.clients ++ t ∷ [] = ap (λ (u : LiveView). u.clients) rest in
-    (record w { clients = w.clients ++ t ∷ [] }, once (Joins t none),
-    clients_both is u (w.clients ++ t ∷ []) (rest ∙ ap (λ (all : List TalkView). record v { clients = all }) (sym more))
-    (ap (λ (all : List TalkView). all ++ t ∷ []) is.clients ∙ sym more))
+    let more : u.clients ≡ v.clients ++ t ∷ [] = ap (λ (u : LiveView). u.clients) rest in (
+      record w { clients = w.clients ++ t ∷ [] },
+      once (Joins t none),
+      clients_both is u (w.clients ++ t ∷ []) (rest ∙ ap (λ (all : List TalkView). record v { clients = all }) (sym more))
+          (ap (λ (all : List TalkView). all ++ t ∷ []) is.clients ∙ sym more),
+    )
 client_goes v u (c.Want request) rest =
     λ w comes is.
-    let same : u.clients ≡ v.clients = ap (λ (u : LiveView). u.clients) rest in
-    (record w { asked = request ∷ w.asked }, once (Wants request),
-    asked_both is u w.clients (request ∷ []) (rest ∙ ap (λ (all : List TalkView). record v { clients = all; asked = v.asked ++ request ∷ [] }) (sym same))
-    (is.clients ∙ sym same))
+    let same : u.clients ≡ v.clients = ap (λ (u : LiveView). u.clients) rest in (
+      record w { asked = request ∷ w.asked },
+      once (Wants request),
+      asked_both is u w.clients (request ∷ []) (rest ∙ ap (λ (all : List TalkView). record v { clients = all; asked = v.asked ++ request ∷ [] }) (sym same))
+          (is.clients ∙ sym same),
+    )
 client_goes v u (c.Ask client) (more, talk, rest) =
     asks_goes v u client talk.before talk.after more (next_of talk.before.asker) refl talk.there talk.deed.0 talk.deed.1 talk.clients rest
 client_goes v u (c.AskAgain client) (t, there, rest) =
     λ w comes is.
-    let same : u.clients ≡ v.clients = ap (λ (u : LiveView). u.clients) rest in
-    (record w { asked = asked_again t.asker ++ w.asked }, once (AsksAgain client t (talks is client t there)),
-    asked_both is u w.clients (asked_again t.asker) (rest ∙ ap (λ (all : List TalkView). record v { clients = all; asked = v.asked ++ asked_again t.asker }) (sym same))
-    (is.clients ∙ sym same))
+    let same : u.clients ≡ v.clients = ap (λ (u : LiveView). u.clients) rest in (
+      record w { asked = asked_again t.asker ++ w.asked },
+      once (AsksAgain client t (talks is client t there)),
+      asked_both is u w.clients (asked_again t.asker) (rest ∙ ap (λ (all : List TalkView). record v { clients = all; asked = v.asked ++ asked_again t.asker }) (sym same))
+          (is.clients ∙ sym same),
+    )
 client_goes v u (c.Answer client told) (a, in_told, talk, rest) =
     answer_goes v u client talk.before talk.after a (contained v.told told a in_told) talk.there talk.deed talk.clients rest
 client_goes v u (c.Print client) (talk, rest) = print_goes v u client talk.before talk.after talk.there talk.deed talk.clients rest

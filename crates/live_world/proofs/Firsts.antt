@@ -112,10 +112,12 @@ goes_on v u goes (p, comes, is) =
     let same_image : v.image ≡ u.image = sym is.image ∙ sym image ∙ is_x.image in
     let same_keepers : v.quorum.keepers ≡ u.quorum.keepers = sym is.keepers ∙ sym keepers ∙ is_x.keepers in
     let same_need : v.quorum.need ≡ u.quorum.need = sym is.need ∙ sym need ∙ is_x.need in
-    let now : Comes v.image v.quorum.keepers v.quorum.need x = comes_on comes follows in
-    (x, subst (λ (image : ImageContents). Comes image u.quorum.keepers u.quorum.need x) same_image
-    (subst (λ (keepers : ℕ). Comes v.image keepers u.quorum.need x) same_keepers (subst (λ (need : ℕ). Comes v.image v.quorum.keepers need x) same_need now)),
-    is_x)
+    let now : Comes v.image v.quorum.keepers v.quorum.need x = comes_on comes follows in (
+      x,
+      subst (λ (image : ImageContents). Comes image u.quorum.keepers u.quorum.need x) same_image
+          (subst (λ (keepers : ℕ). Comes v.image keepers u.quorum.need x) same_keepers (subst (λ (need : ℕ). Comes v.image v.quorum.keepers need x) same_need now)),
+      is_x,
+    )
 
 -- and the promises that such a world keeps
 pub keeps_promises : (v : LiveView) → (p : ProcessWorld) × Comes v.image v.quorum.keepers v.quorum.need p × IsWorldOf v p →

@@ -16,7 +16,7 @@ use Rattle.wire.specs.declared.acknowledgements.Acknowledgement.{Acknowledgement
 use Rattle.wire.specs.declared.answers.Answer.{Answer}
 use Rattle.wire.specs.declared.requests.Request.{Request}
 use Rattle.wire.specs.declared.requests.Request.TheVariants.{Timer, Word, From}
-use Rattle.process_world.specs.Worlds.{ProcessWorld, led_as}
+use Rattle.process_world.specs.Worlds.{led_as}
 use Rattle.process_world.specs.Happenings.{LeadsRound, Ends, Seals, HearsSaid, LacksMemory, HearsRequest, Tells, IsRoundOf, OnlyHears}
 use Rattle.process_world.specs.Happenings.{led_by, ended, told_of, answer_of}
 use Rattle.live_world.specs.declared.event.PrimaryEvent.TheVariants as event
@@ -44,8 +44,8 @@ abbrev pub with_told : LiveView → List Answer → List Seat → LiveView
 with_told v told led = record v { led = led; told = told }
 
 -- what is read at a place stands there
-pub at_index : {A : Type 0} (xs : List A) (n many : ℕ) (x : A) → many ≡ length xs → n < many → x ≡ slice_index_or xs n x → slice_get xs n ≡ Some x
-at_index xs n many x all less is = slice_get-get_or xs n x (omega (arith, all, less)) ∙ ap Some (sym is)
+pub at_index : {A : Type 0} (xs : List A) (n : ℕ) (x : A) → n < length xs → x ≡ slice_index_or xs n x → slice_get xs n ≡ Some x
+at_index xs n x less is = slice_get-get_or xs n x less ∙ ap Some (sym is)
 
 -- the one fault that a growth which is refused becomes
 pub lacks : {T : Type 0} (r : Result T EventFault) (P : EventFault → Type 0) → IsErrAnd r (λ e. e ≡ NoMemory) → P NoMemory → IfErr r P
@@ -170,7 +170,9 @@ told_at v n number s l out r term room told there runs all at own same more =
       there = there ∙ ap Some runs;
       released = r;
       out = subst (λ (all : List Released). slice_get all number ≡ Some r) all at;
-      rest = ap (λ (told : List Answer). with_told v told v.led) (more ∙ ap (λ (told : List Answer). told ++ record { term = term; output = r.output } ∷ []) same
+      rest = ap (λ (told : List Answer). with_told v told v.led)
+          (more
+          ∙ ap (λ (told : List Answer). told ++ record { term = term; output = r.output } ∷ []) same
           ∙ ap (λ term. v.told ++ record { term = term; output = r.output } ∷ []) own);
     }
 

@@ -86,12 +86,12 @@ may_say a is =
     elim (cases_lt 0 a.term) [
       | inr zero ↦ inr (λ said. absurd (omega (arith, zero, said.term.0)))
       | inl granted ↦ elim (cases_lt a.output.number COUNT_LIMIT) [
-            | inr more ↦ inr (λ said. absurd (omega (arith, more, said.number)))
-            | inl number ↦ elim (cases_lt a.output.step COUNT_LIMIT) [
-                  | inr more ↦ inr (λ said. absurd (omega (arith, more, said.step)))
-                  | inl step ↦ inl (record { term = (granted, is.term); hart = (is.hart, is.hart); number = number; step = step; word_is = is.word_is })
-                ]
-          ]
+        | inr more ↦ inr (λ said. absurd (omega (arith, more, said.number)))
+        | inl number ↦ elim (cases_lt a.output.step COUNT_LIMIT) [
+          | inr more ↦ inr (λ said. absurd (omega (arith, more, said.step)))
+          | inl step ↦ inl (record { term = (granted, is.term); hart = (is.hart, is.hart); number = number; step = step; word_is = is.word_is })
+        ]
+      ]
     ]
 
 is_new : (r : Heard) → (r ≡ New) ⊎ (r ≡ New → ⊥)

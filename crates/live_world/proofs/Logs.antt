@@ -47,9 +47,13 @@ module _ (handed : List HandedTo) (numbers : List ℕ) (i : ℕ) (h : HandedTo) 
   -- it is none
   pub not_whole : (guest : GuestParts) (f : HandedFault) → IsNotWhole guest bytes f → (image : ImageContents) → guest_of image ≡ guest →
       (n : ℕ) × (h : HandedTo) × Contains numbers n × (slice_get handed n ≡ Some h) × IsNotWhole (guest_of image) h.bytes.items f
-  not_whole guest f why image same =
-      (get_or numbers i 0, h, Contains-get_or numbers i 0 within, there,
-      subst (λ (guest : GuestParts). IsNotWhole guest h.bytes.items f) (sym same) (subst (λ (bs : List ℕ). IsNotWhole guest bs f) own why))
+  not_whole guest f why image same = (
+    get_or numbers i 0,
+    h,
+    Contains-get_or numbers i 0 within,
+    there,
+    subst (λ (guest : GuestParts). IsNotWhole guest h.bytes.items f) (sym same) (subst (λ (bs : List ℕ). IsNotWhole guest bs f) own why),
+  )
 
 -- ---- what is given of them
 
@@ -85,8 +89,13 @@ given_all guest handed [] [] (g ∷ given) has are = absurd are
 given_all guest handed [] (l ∷ logs) given has are = absurd has
 given_all guest handed (n ∷ numbers) [] given has are = absurd has
 given_all guest handed (n ∷ numbers) (l ∷ logs) [] has are = absurd are
-given_all guest handed (n ∷ numbers) (l ∷ logs) (g ∷ given) ((h, there, log), has) ((keeper, term, store), are) =
-    ((h, there, λ by to sent named line.
-    let is = log by to sent named line in
-    (keeper ∙ is.by, term ∙ is.to, is.frames, is.splits, subst (λ now. IsJoinOf guest is.frames now) (sym store) is.join)),
-    given_all guest handed numbers logs given has are)
+given_all guest handed (n ∷ numbers) (l ∷ logs) (g ∷ given) ((h, there, log), has) ((keeper, term, store), are) = (
+  (
+    h,
+    there,
+    λ by to sent named line.
+        let is = log by to sent named line in
+        (keeper ∙ is.by, term ∙ is.to, is.frames, is.splits, subst (λ now. IsJoinOf guest is.frames now) (sym store) is.join),
+  ),
+  given_all guest handed numbers logs given has are,
+)

@@ -24,29 +24,33 @@ module _ (was v : LiveView) (same : was ≡ v) where
       t ≡ get_or was.clients n t → Deed t s → u ≡ record was { clients = slice_set was.clients n s } →
       AtTalk v n Deed u × (u ≡ record v { clients = u.clients })
   at_talk u n t s Deed less is deed rest =
-      let clients : u.clients ≡ slice_set was.clients n s = ap (λ (u : LiveView). u.clients) rest in
-      (record {
-        before = t;
-        there = client_there n t less is;
-        after = s;
-        deed = deed;
-        clients = clients ∙ ap (λ (x : LiveView). slice_set x.clients n s) same;
-      }, rest ∙ ap (λ (all : List TalkView). record was { clients = all }) (sym clients) ∙ ap (λ (x : LiveView). record x { clients = u.clients }) same)
+      let clients : u.clients ≡ slice_set was.clients n s = ap (λ (u : LiveView). u.clients) rest in (
+        record {
+          before = t;
+          there = client_there n t less is;
+          after = s;
+          deed = deed;
+          clients = clients ∙ ap (λ (x : LiveView). slice_set x.clients n s) same;
+        },
+        rest ∙ ap (λ (all : List TalkView). record was { clients = all }) (sym clients) ∙ ap (λ (x : LiveView). record x { clients = u.clients }) same,
+      )
 
   pub asks_more : (u : LiveView) (n : ℕ) (t s : TalkView) (asked more : List Request) (Deed : TalkView → TalkView → Type 0) → n < length was.clients →
       t ≡ get_or was.clients n t → Deed t s → asked ≡ was.asked ++ more → u ≡ record was { clients = slice_set was.clients n s; asked = asked } →
       AtTalk v n Deed u × (u ≡ record v { clients = u.clients; asked = v.asked ++ more })
   asks_more u n t s asked more Deed less is deed all rest =
-      let clients : u.clients ≡ slice_set was.clients n s = ap (λ (u : LiveView). u.clients) rest in
-      (record {
-        before = t;
-        there = client_there n t less is;
-        after = s;
-        deed = deed;
-        clients = clients ∙ ap (λ (x : LiveView). slice_set x.clients n s) same;
-      }, rest ∙ ap (λ (asked : List Request). record was { clients = slice_set was.clients n s; asked = asked }) all
-      ∙ ap (λ (all : List TalkView). record was { clients = all; asked = was.asked ++ more }) (sym clients)
-      ∙ ap (λ (x : LiveView). record x { clients = u.clients; asked = x.asked ++ more }) same)
+      let clients : u.clients ≡ slice_set was.clients n s = ap (λ (u : LiveView). u.clients) rest in (
+        record {
+          before = t;
+          there = client_there n t less is;
+          after = s;
+          deed = deed;
+          clients = clients ∙ ap (λ (x : LiveView). slice_set x.clients n s) same;
+        },
+        rest ∙ ap (λ (asked : List Request). record was { clients = slice_set was.clients n s; asked = asked }) all
+            ∙ ap (λ (all : List TalkView). record was { clients = all; asked = was.asked ++ more }) (sym clients)
+            ∙ ap (λ (x : LiveView). record x { clients = u.clients; asked = x.asked ++ more }) same,
+      )
 
   -- it heard an answer that was told, or not
   pub hears_told : (u : LiveView) (n : ℕ) (t s : TalkView) (k : ℕ) (a : Answer) → n < length was.clients → t ≡ get_or was.clients n t →
@@ -59,17 +63,20 @@ module _ (was v : LiveView) (same : was ≡ v) where
   pub asks_again : (n : ℕ) (t : TalkView) (asked more : List Request) → n < length was.clients → t ≡ get_or was.clients n t →
       more ≡ asked_again t.asker → asked ≡ was.asked ++ more →
       (t : TalkView) × (slice_get v.clients n ≡ Some t) × (record was { asked = asked } ≡ record v { asked = v.asked ++ asked_again t.asker })
-  asks_again n t asked more less is again all =
-      (t, client_there n t less is,
-      ap (λ (l : List Request). record was { asked = l }) (all ∙ ap (λ (l : List Request). was.asked ++ l) again)
-      ∙ ap (λ (x : LiveView). record x { asked = x.asked ++ asked_again t.asker }) same)
+  asks_again n t asked more less is again all = (
+    t,
+    client_there n t less is,
+    ap (λ (l : List Request). record was { asked = l }) (all ∙ ap (λ (l : List Request). was.asked ++ l) again)
+        ∙ ap (λ (x : LiveView). record x { asked = x.asked ++ asked_again t.asker }) same,
+  )
 
 -- the next word was asked for, where there was one
 pub asks_next : (t s : TalkView) (r : Option Request) (more : List Request) → r ≡ next_of t.asker →
     s ≡ record t { asker = record t.asker { sent = t.asker.sent + length (option_to_list r) } } → more ≡ option_to_list r → AsksNext more t s
-asks_next t s r more is sent all =
-    (all ∙ ap (λ (r : Option Request). option_to_list r) is,
-    sent ∙ ap (λ (l : List Request). record t { asker = record t.asker { sent = t.asker.sent + length l } }) (sym all))
+asks_next t s r more is sent all = (
+  all ∙ ap (λ (r : Option Request). option_to_list r) is,
+  sent ∙ ap (λ (l : List Request). record t { asker = record t.asker { sent = t.asker.sent + length l } }) (sym all),
+)
 
 -- the next answer was told, where it was there
 pub tells_next : (t s : TalkView) (r : Option Told) →

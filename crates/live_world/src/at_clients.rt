@@ -23,8 +23,7 @@ fn are_kept(_term: Term, _number: u64, _step: Count, _word: u32)
     ensures number { _number < 2 ^ 64 }
     ensures step { _step < 2 ^ 64 }
     ensures word_is { _word < 2 ^ 32 }
-{
-}
+{}
 
 /// The line of an answer that was told.
 fn line_of(answer: &Answer) -> Line

@@ -1,4 +1,4 @@
-use Rattle.std.proofs.Common.{◌≡◌, refl, ap, subst}
+use Rattle.std.proofs.Common.{refl, ap, subst}
 use Rattle.live_world.specs.Seats.{RunsNot}
 use Rattle.live_world.specs.Views.{LiveView, GoesTo}
 use Rattle.live_world.specs.contracts.parts.LiveParts.{the_view}

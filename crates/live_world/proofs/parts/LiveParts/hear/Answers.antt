@@ -1,4 +1,4 @@
-use Rattle.std.proofs.Common.{◌≡◌, refl, subst}
+use Rattle.std.proofs.Common.{◌<◌, length, refl, subst, arith}
 use Rattle.live_world.specs.declared.event.PrimaryEvent.TheVariants as event
 use Rattle.live_world.specs.declared.fault.EventFault.TheVariants.{Memory}
 use Rattle.live_world.specs.Happenings.{HearsSaidAt}
@@ -32,7 +32,9 @@ pub returns-in_err-heard-clause-left : goal.returns-in_err-heard-clause-left
 returns-in_err-heard-clause-left c =
     let old = the_view c.self.inside in
     let now = c.put_leader.new.led.items in
-    let there = at_index old.said c.args.said c.len.result c.index.result.now c.len.ensures c.if-said-len.false c.index.ensures in
+    let less : c.args.said < length c.self.inside.said.items =
+    (let many = c.len.ensures in let below = c.if-said-len.false in omega (arith, many, below)) in
+    let there = at_index old.said c.args.said c.index.result.now less c.index.ensures in
     lacks c.from_residual.result _ c.from_residual.ensures.1
     (subst (λ (v : LiveView). PrimaryLeaves v (event.Hear c.args.primary c.args.said) Memory (with_led old now)) c.self.view_is
     (lacked_at old c.args.primary c.args.said c.index.result.now c.in-Some.leader c.acknowledge-heard.new.self c.take_leader.new.led.items now there
@@ -42,7 +44,9 @@ pub returns-in_err-heard-clause-goes : goal.returns-in_err-heard-clause-goes
 returns-in_err-heard-clause-goes c =
     let old = the_view c.self.inside in
     let now = c.put_leader.new.led.items in
-    let there = at_index old.said c.args.said c.len.result c.index.result.now c.len.ensures c.if-said-len.false c.index.ensures in
+    let less : c.args.said < length c.self.inside.said.items =
+    (let many = c.len.ensures in let below = c.if-said-len.false in omega (arith, many, below)) in
+    let there = at_index old.said c.args.said c.index.result.now less c.index.ensures in
     subst (λ (v : LiveView). GoesTo v (with_led old now)) c.self.view_is
     (lack_goes old (with_led old now) c.args.primary c.args.said
     (lacked_at old c.args.primary c.args.said c.index.result.now c.in-Some.leader c.acknowledge-heard.new.self c.take_leader.new.led.items now there
@@ -52,7 +56,9 @@ pub returns-clause-happens : goal.returns-clause-happens
 returns-clause-happens c =
     let old = the_view c.self.inside in
     let now = c.put_leader.new.led.items in
-    let there = at_index old.said c.args.said c.len.result c.index.result.now c.len.ensures c.if-said-len.false c.index.ensures in
+    let less : c.args.said < length c.self.inside.said.items =
+    (let many = c.len.ensures in let below = c.if-said-len.false in omega (arith, many, below)) in
+    let there = at_index old.said c.args.said c.index.result.now less c.index.ensures in
     subst (λ (v : LiveView). HearsSaidAt v c.args.primary c.args.said (with_led old now)) c.self.view_is
     (heard_at old c.args.primary c.args.said c.index.result.now c.in-Some.leader c.acknowledge-heard.new.self c.take_leader.new.led.items now there
     c.in-Some.ensures.some c.put_leader.ensures c.in_ok-heard.ensures.lets c.acknowledge-heard.ensures.rest)
@@ -61,7 +67,9 @@ pub returns-clause-goes : goal.returns-clause-goes
 returns-clause-goes c =
     let old = the_view c.self.inside in
     let now = c.put_leader.new.led.items in
-    let there = at_index old.said c.args.said c.len.result c.index.result.now c.len.ensures c.if-said-len.false c.index.ensures in
+    let less : c.args.said < length c.self.inside.said.items =
+    (let many = c.len.ensures in let below = c.if-said-len.false in omega (arith, many, below)) in
+    let there = at_index old.said c.args.said c.index.result.now less c.index.ensures in
     subst (λ (v : LiveView). GoesTo v (with_led old now)) c.self.view_is
     (hear_goes old (with_led old now) c.args.primary c.args.said
     (heard_at old c.args.primary c.args.said c.index.result.now c.in-Some.leader c.acknowledge-heard.new.self c.take_leader.new.led.items now there

@@ -1,10 +1,7 @@
-use Rattle.std.proofs.Common.{◌≡◌, ◌++◌, refl, ap, subst, ◌∙◌, sym}
+use Rattle.std.proofs.Common.{◌≡◌, ◌<◌, ◌++◌, length, refl, sym, ap, subst, ◌∙◌, arith}
 use Rattle.leading.specs.declared.heard.Heard.{Heard}
 use Rattle.process_world.specs.Happenings.{told_of}
-use Rattle.live_world.specs.declared.event.PrimaryEvent.TheVariants as event
-use Rattle.live_world.specs.declared.fault.EventFault.TheVariants.{Memory}
 use Rattle.live_world.specs.Happenings.{HearsAsked}
-use Rattle.live_world.specs.Refusals.{PrimaryLeaves}
 use Rattle.live_world.specs.Seats.{RunsNot}
 use Rattle.live_world.specs.Views.{LiveView, GoesTo}
 use Rattle.live_world.specs.contracts.parts.LiveParts.{the_view}
@@ -76,7 +73,9 @@ returns-in_ok-add_all-in-Told-clause-happens c =
     let old = the_view c.self.inside in
     let now = c.put_leader.new.led.items in
     let told = c.add_all.new.items.items in
-    let there = at_index old.asked c.args.asked c.len.result c.index.result.now c.len.ensures c.if-asked-len.false c.index.ensures in
+    let less : c.args.asked < length c.self.inside.asked.items =
+    (let many = c.len.ensures in let below = c.if-asked-len.false in omega (arith, many, below)) in
+    let there = at_index old.asked c.args.asked c.index.result.now less c.index.ensures in
     let more : told ≡ old.told ++ told_of c.in_ok-answers.field-0 =
     (c.in_ok-add_all-in-Told.ensures.ok ∙ ap (λ (h : Heard). old.told ++ told_of h) (sym c.in-Told.is)) in
     subst (λ (v : LiveView). HearsAsked v c.args.primary c.args.asked (with_told old told now)) c.self.view_is
@@ -88,7 +87,9 @@ returns-in_ok-add_all-in-Told-clause-goes c =
     let old = the_view c.self.inside in
     let now = c.put_leader.new.led.items in
     let told = c.add_all.new.items.items in
-    let there = at_index old.asked c.args.asked c.len.result c.index.result.now c.len.ensures c.if-asked-len.false c.index.ensures in
+    let less : c.args.asked < length c.self.inside.asked.items =
+    (let many = c.len.ensures in let below = c.if-asked-len.false in omega (arith, many, below)) in
+    let there = at_index old.asked c.args.asked c.index.result.now less c.index.ensures in
     let more : told ≡ old.told ++ told_of c.in_ok-answers.field-0 =
     (c.in_ok-add_all-in-Told.ensures.ok ∙ ap (λ (h : Heard). old.told ++ told_of h) (sym c.in-Told.is)) in
     subst (λ (v : LiveView). GoesTo v (with_told old told now)) c.self.view_is
@@ -100,7 +101,9 @@ pub returns-in_default-2 : goal.returns-in_default-2
 returns-in_default-2 c =
     let old = the_view c.self.inside in
     let now = c.put_leader.new.led.items in
-    let there = at_index old.asked c.args.asked c.len.result c.index.result.now c.len.ensures c.if-asked-len.false c.index.ensures in
+    let less : c.args.asked < length c.self.inside.asked.items =
+    (let many = c.len.ensures in let below = c.if-asked-len.false in omega (arith, many, below)) in
+    let there = at_index old.asked c.args.asked c.index.result.now less c.index.ensures in
     let hears = asked_at old c.args.primary c.args.asked c.index.result.now c.in_ok-answers.field-0 c.in-Some.leader c.hear-heard.new.self
     c.take_leader.new.led.items now old.told there c.in-Some.ensures.some c.put_leader.ensures c.in_ok-answers.ensures.hears
     (nothing_told old.told c.in_ok-answers.field-0 c.in_default-2.not-Told) in

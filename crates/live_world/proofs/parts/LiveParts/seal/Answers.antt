@@ -1,4 +1,4 @@
-use Rattle.std.proofs.Common.{◌≡◌, refl, subst}
+use Rattle.std.proofs.Common.{refl, subst}
 use Rattle.live_world.specs.declared.event.PrimaryEvent.TheVariants as event
 use Rattle.live_world.specs.declared.fault.EventFault.TheVariants.{Memory}
 use Rattle.live_world.specs.Happenings.{SealsLog}
@@ -6,7 +6,7 @@ use Rattle.live_world.specs.Refusals.{PrimaryLeaves}
 use Rattle.live_world.specs.Seats.{RunsNot}
 use Rattle.live_world.specs.Views.{LiveView, GoesTo}
 use Rattle.live_world.specs.contracts.parts.LiveParts.{the_view}
-use Rattle.live_world.proofs.Leading.{with_led, with_sent, lacks, seat_there, unmoved, as_it_was, at_seat, cut_at, uncut_at, lost_goes, seal_goes, CutsLog}
+use Rattle.live_world.proofs.Leading.{with_led, with_sent, lacks, seat_there, unmoved, as_it_was, cut_at, uncut_at, lost_goes, seal_goes}
 use Rattle.live_world.proofs.parts.LiveParts.seal.Goals as goal
 
 pub returns-in_default-clause-refused : goal.returns-in_default-clause-refused

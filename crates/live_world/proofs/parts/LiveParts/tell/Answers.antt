@@ -1,4 +1,5 @@
-use Rattle.std.proofs.Common.{◌≡◌, ◌≤◌, List, length, slice_get, Some, refl, ap, subst, ◌∙◌, arith}
+use Rattle.std.proofs.Common.{◌≡◌, ◌<◌, ◌≤◌, List, length, slice_get, slice_index_or, Some, refl, ap, subst, ◌∙◌, arith}
+use Rattle.std.proofs.lemmas.Option.{slice_get-get_or}
 use Rattle.primary.specs.declared.released.Released.{Released}
 use Rattle.live_world.specs.declared.seat.Seat.TheVariants.{Runs}
 use Rattle.live_world.specs.Happenings.{TellsAt}
@@ -33,7 +34,9 @@ returns-then-primary-len-clause-goes c =
 pub returns-in_default-clause-refused : goal.returns-in_default-clause-refused
 returns-in_default-clause-refused c =
     let old = the_view c.self.inside in
-    let there = at_index old.led c.args.primary c.len.result c.index.result.now c.len.ensures c.if-primary-len.false c.index.ensures in (
+    let less : c.args.primary < length c.self.inside.led.items =
+    (let many = c.len.ensures in let below = c.if-primary-len.false in omega (arith, many, below)) in
+    let there = at_index old.led c.args.primary c.index.result.now less c.index.ensures in (
       c.args.primary,
       refl,
       subst (λ (v : LiveView). RunsNot v.led c.args.primary) c.self.view_is
@@ -49,7 +52,9 @@ returns-in_default-clause-goes c =
 pub returns-then-released-out-clause-refused : goal.returns-then-released-out-clause-refused
 returns-then-released-out-clause-refused c =
     let old = the_view c.self.inside in
-    let there = at_index old.led c.args.primary c.len.result c.index.result.now c.len.ensures c.if-primary-len.false c.index.ensures in (
+    let less : c.args.primary < length c.self.inside.led.items =
+    (let many = c.len.ensures in let below = c.if-primary-len.false in omega (arith, many, below)) in
+    let there = at_index old.led c.args.primary c.index.result.now less c.index.ensures in (
       c.in-Runs.leader,
       subst (λ (v : LiveView). slice_get v.led c.args.primary ≡ Some (Runs c.in-Runs.leader)) c.self.view_is (there ∙ ap Some c.in-Runs.is),
       subst (λ (all : List Released). length all ≤ c.args.released) c.released-out.ensures c.if-released-out.true,
@@ -65,21 +70,25 @@ pub returns-clause-happens : goal.returns-clause-happens
 returns-clause-happens c =
     let old = the_view c.self.inside in
     let told = c.push_reserved.new.self.items in
-    let there = at_index old.led c.args.primary c.len.result c.index.result.now c.len.ensures c.if-primary-len.false c.index.ensures in
-    let out = at_index c.released-out.result.now c.args.released (length c.released-out.result.now) c.index-out-released.result refl c.if-released-out.false
-    c.index-out-released.is in
+    let less : c.args.primary < length c.self.inside.led.items =
+    (let many = c.len.ensures in let below = c.if-primary-len.false in omega (arith, many, below)) in
+    let there = at_index old.led c.args.primary c.index.result.now less c.index.ensures in
+    let released = slice_index_or c.released-out.result.now c.args.released c.index-out-released.result in
+    let out = slice_get-get_or c.released-out.result.now c.args.released c.index-out-released.result c.if-released-out.false in
     subst (λ (v : LiveView). TellsAt v c.args.primary c.args.released (with_told old told old.led)) c.self.view_is
-    (told_at old c.args.primary c.args.released c.index.result.now c.in-Runs.leader c.released-out.result.now c.index-out-released.result c.term.result
+    (told_at old c.args.primary c.args.released c.index.result.now c.in-Runs.leader c.released-out.result.now released c.term.result
     c.make_room.new.items.items told there c.in-Runs.is c.released-out.ensures out c.term.ensures c.make_room.ensures.same c.push_reserved.ensures.items)
 
 pub returns-clause-goes : goal.returns-clause-goes
 returns-clause-goes c =
     let old = the_view c.self.inside in
     let told = c.push_reserved.new.self.items in
-    let there = at_index old.led c.args.primary c.len.result c.index.result.now c.len.ensures c.if-primary-len.false c.index.ensures in
-    let out = at_index c.released-out.result.now c.args.released (length c.released-out.result.now) c.index-out-released.result refl c.if-released-out.false
-    c.index-out-released.is in
+    let less : c.args.primary < length c.self.inside.led.items =
+    (let many = c.len.ensures in let below = c.if-primary-len.false in omega (arith, many, below)) in
+    let there = at_index old.led c.args.primary c.index.result.now less c.index.ensures in
+    let released = slice_index_or c.released-out.result.now c.args.released c.index-out-released.result in
+    let out = slice_get-get_or c.released-out.result.now c.args.released c.index-out-released.result c.if-released-out.false in
     subst (λ (v : LiveView). GoesTo v (with_told old told old.led)) c.self.view_is
     (tell_goes old (with_told old told old.led) c.args.primary c.args.released
-    (told_at old c.args.primary c.args.released c.index.result.now c.in-Runs.leader c.released-out.result.now c.index-out-released.result c.term.result
+    (told_at old c.args.primary c.args.released c.index.result.now c.in-Runs.leader c.released-out.result.now released c.term.result
     c.make_room.new.items.items told there c.in-Runs.is c.released-out.ensures out c.term.ensures c.make_room.ensures.same c.push_reserved.ensures.items))
