@@ -340,7 +340,10 @@ impl Live {
                 let from = frame as usize;
                 self.takes(alloc, keeper, from, from.saturating_add(1))?
             }
-            Act::Join(keeper, _) => self.takes(alloc, keeper, 0, self.world.frames().len())?,
+            Act::Join(keeper, _) => {
+                let frames = self.world.frames().len();
+                self.takes(alloc, keeper, 0, frames)?
+            }
             Act::Save(_) => true,
             Act::Restart(keeper) => self.restart(alloc, keeper)?,
             Act::Fence(keeper, term) => self.gives(alloc, keeper, term)?,

@@ -154,8 +154,10 @@ impl LiveList {
             .keeper_does(alloc, KeeperEvent::Log { keeper, plan })?;
         self.count(LOGGED, logged);
         self.count(CUT_SHORT, !logged);
-        self.count(SAID, self.live.world.said().len() > said);
-        self.count(HANDED, self.live.world.handed().len() > handed);
+        let has_said = self.live.world.said().len() > said;
+        let has_handed = self.live.world.handed().len() > handed;
+        self.count(SAID, has_said);
+        self.count(HANDED, has_handed);
         Ok(())
     }
 
