@@ -323,15 +323,15 @@ stop "$holder"
 # A disk that does not take what was added, once.
 if command -v cc > /dev/null; then
     cc -O1 -shared -fPIC -o refuse.so "$top/benches/live/refuse_calls.c" -ldl
-    : > acks.refused
-    make_log 0 refused
+    : > acks.unsynced
+    make_log 0 unsynced
     make_log 0 unfenced
     # the first call is for the folder, the second for the log
-    LD_PRELOAD=$work/refuse.so CALLS_OF=sync CALLS_AS=once CALLS_AT=2 says 'a log that is not brought to disk' 1 'fault file refused' \
-        keeper "$image" 0 refused from frames.own to acks.refused
-    is 'nothing is acknowledged' 1 "$(wc -l < acks.refused)"
-    says 'its keeper begins no more' 1 'fault log failed' keeper "$image" 0 refused from frames.own to acks.refused
-    says 'and it is not handed over' 1 'fault log failed' hand "$image" 0 refused 1
+    LD_PRELOAD=$work/refuse.so CALLS_OF=sync CALLS_AS=once CALLS_AT=2 says 'a log that is not brought to disk' 1 'fault file unsynced' \
+        keeper "$image" 0 unsynced from frames.own to acks.unsynced
+    is 'nothing is acknowledged' 1 "$(wc -l < acks.unsynced)"
+    says 'its keeper begins no more' 1 'fault log failed' keeper "$image" 0 unsynced from frames.own to acks.unsynced
+    says 'and it is not handed over' 1 'fault log failed' hand "$image" 0 unsynced 1
     LD_PRELOAD=$work/refuse.so CALLS_OF=sync CALLS_AS=once CALLS_AT=3 says 'a fence that is not brought to disk' 1 'fault file unfenced.fences' hand "$image" 0 unfenced 1
     says 'its log is not handed over' 1 'fault log failed' hand "$image" 0 unfenced 2
 else
