@@ -10,4 +10,4 @@ returns c =
     c.seal_line.ensures ∙ ap (λ (t : List ℕ). line (sealed c.args.guest.now t))
     (keeps_spelled c.args.keeps.now c.push.new.self c.push_number.new.self c.push_pair.new.text c.push_inode.new.text c.push_inode-2.new.text
     (c.push.ensures.bytes ∙ ap (λ (t : List ℕ). t ++ codes "keeps") c.new-text.ensures)
-    (c.push_number.ensures.bytes ∙ ap (λ (n : ℕ). c.push.new.self ++ 32 ∷ decimal n) c.number.ensures.value) c.push_pair.ensures.bytes c.push_inode.ensures.bytes c.push_inode-2.ensures.bytes)
+    (c.push_number.ensures.bytes ∙ ap (λ (n : ℕ). c.push.new.self ++ 32 ∷ decimal n) (c.from.ensures ∙ c.number.ensures.value)) c.push_pair.ensures.bytes c.push_inode.ensures.bytes c.push_inode-2.ensures.bytes)
