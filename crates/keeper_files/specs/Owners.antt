@@ -16,9 +16,10 @@ keeps_of keeper pair log fences = record { keeper = keeper; pair = pair; log = i
 
 -- The files are those that were made for this keeper of the pair: the first line of the fences says so, and which file the log is, and which they are
 -- themselves. So neither is another file than the one that was made: a copy, one that was restored, or another keeper's.
-abbrev pub AreKept : GuestParts → ℕ → Pair → Identity → Identity → List ℕ → Type 0
-AreKept guest keeper pair log fences bytes =
-    IsKeeps (keeps_of keeper pair log fences) × (rest : List ℕ) × BeginsWithLine bytes (keeps_text guest (keeps_of keeper pair log fences)) rest
+pub record AreKept (guest : GuestParts) (keeper : ℕ) (pair : Pair) (log fences : Identity) (bytes : List ℕ) : Type 0 where
+  pub keeps : IsKeeps (keeps_of keeper pair log fences)
+  pub rest : List ℕ
+  pub first : BeginsWithLine bytes (keeps_text guest (keeps_of keeper pair log fences)) rest
 
 -- why files of which such a line was read are not the keeper's
 abbrev pub IsNotKept : Keeps → ℕ → Identity → Identity → OpenFault → Type 0
