@@ -1,0 +1,42 @@
+-- Logs that were read so far are of one pair.
+use Rattle.std.proofs.Common.{◌≡◌, ℕ, List, [], ◌∷◌, ◌++◌, Option, None, Some, refl, sym, subst, ◌∙◌}
+use Rattle.std.specs.Prelude.{IfSome, IfNone}
+use Rattle.std.specs.List.{AllByRecursion}
+use Rattle.ft_types.specs.Guests.{GuestParts}
+use Rattle.ft_types.specs.declared.quorum.Quorum.{Quorum}
+use Rattle.wire.specs.declared.pairs.Pair.{Pair}
+use Rattle.leading.specs.declared.handed.HandedLog.{HandedLog}
+use Rattle.live_primary.specs.Pairs.{IsBehind, AreOfPair}
+
+-- these logs are of one pair, which was named before where there are some
+pub record SoFar (guest : GuestParts) (quorum : Quorum) (before : Option Pair) (logs : List HandedLog) : Type 0 where
+  pub pair : Pair
+  pub quorum_is : pair.quorum ≡ quorum
+  pub of_pair : AreOfPair guest pair logs
+  pub same : IfSome before (λ p. p ≡ pair)
+  pub none : IfNone before (logs ≡ [])
+
+pub none_so_far : (guest : GuestParts) (quorum : Quorum) → SoFar guest quorum None []
+none_so_far guest quorum = record { pair = record { quorum = quorum; name = 0 }; quorum_is = refl; of_pair = tt; same = tt; none = refl }
+
+-- all of a row, and one more
+all_more : {A : Type 0} (P : A → Type 0) (xs : List A) (x : A) → AllByRecursion P xs → P x → AllByRecursion P (xs ++ x ∷ [])
+all_more P [] x p q = (q, tt)
+all_more P (y ∷ ys) x p q = (p.0, all_more P ys x p.1 q)
+
+-- what was read so far is of the next one's pair
+of_next : (guest : GuestParts) (quorum : Quorum) (before : Option Pair) (logs : List HandedLog) (own : Pair) → SoFar guest quorum before logs →
+    IfSome before (λ p. own ≡ p) → AreOfPair guest own logs
+of_next guest quorum None logs own so_far is = subst (AreOfPair guest own) (sym so_far.none) tt
+of_next guest quorum (Some p) logs own so_far is = subst (λ (q : Pair). AreOfPair guest q logs) (sym (is ∙ so_far.same)) so_far.of_pair
+
+pub one_more : (guest : GuestParts) (quorum : Quorum) (before : Option Pair) (logs : List HandedLog) (own : Pair) (log : HandedLog) →
+    SoFar guest quorum before logs → own.quorum ≡ quorum → IfSome before (λ p. own ≡ p) → IsBehind guest own log →
+    SoFar guest quorum (Some own) (logs ++ log ∷ [])
+one_more guest quorum before logs own log so_far quorum_is is behind = record {
+  pair = own;
+  quorum_is = quorum_is;
+  of_pair = all_more (IsBehind guest own) logs log (of_next guest quorum before logs own so_far is) behind;
+  same = refl;
+  none = tt;
+}
