@@ -1,12 +1,24 @@
--- Logs that were read so far are of one pair.
+-- Of which pair logs are that were handed over.
 use Rattle.std.proofs.Common.{◌≡◌, ℕ, List, [], ◌∷◌, ◌++◌, Option, None, Some, refl, sym, subst, ◌∙◌}
-use Rattle.std.specs.Prelude.{IfSome, IfNone}
+use Rattle.std.specs.Prelude.{IfSome, IfNone, ◌↔◌}
 use Rattle.std.specs.List.{AllByRecursion}
 use Rattle.ft_types.specs.Guests.{GuestParts}
+use Rattle.ft_types.specs.Text.{line}
 use Rattle.ft_types.specs.declared.quorum.Quorum.{Quorum}
+use Rattle.wire.specs.Fields.{HasNone}
+use Rattle.wire.specs.Pairs.{SaysPair}
 use Rattle.wire.specs.declared.pairs.Pair.{Pair}
+use Rattle.stations.proofs.HandedLines.{one_line}
 use Rattle.leading.specs.declared.handed.HandedLog.{HandedLog}
-use Rattle.live_primary.specs.Pairs.{IsBehind, AreOfPair}
+use Rattle.live_primary.specs.Pairs.{IsOfPair, IsBehind, AreOfPair}
+
+-- bytes whose first line says of no pair are of none
+pub names_none : (guest : GuestParts) (bytes text rest : List ℕ) → HasNone 10 text → bytes ≡ line text ++ rest →
+    ((p : Pair) → (◌≡◌ {A = Option Pair} None (Some p)) ↔ SaysPair guest text p) → (pair : Pair) (other : List ℕ) → IsOfPair guest pair bytes other → ⊥
+names_none guest bytes text rest one parts exact pair other of_pair =
+    let same = one_line text of_pair.text rest other one of_pair.one (sym parts ∙ of_pair.parts) in
+    let never : ◌≡◌ {A = Option Pair} None (Some pair) = (exact pair).1 (subst (λ (t : List ℕ). SaysPair guest t pair) (sym same.0) of_pair.says) in
+    absurd cc
 
 -- these logs are of one pair, which was named before where there are some
 pub record SoFar (guest : GuestParts) (quorum : Quorum) (before : Option Pair) (logs : List HandedLog) : Type 0 where

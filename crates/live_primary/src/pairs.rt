@@ -32,9 +32,10 @@ pub(crate) fn read_own_pair<'a>(
     ensures same { IfOk result (λ r. IfSome before (λ pair. r.0 ≡ pair)) }
     ensures fault { IfErr result (λ f. IsOtherPair guest.now quorum before number bytes.now f) }
 {
-    let Some((pair, rest)) = first_pair(guest, bytes) else {
+    let Some(first) = first_pair(guest, bytes) else {
         return Err(other_pair(number));
     };
+    let (pair, rest) = first;
     if pair.quorum != quorum {
         return Err(other_quorum(number));
     }
