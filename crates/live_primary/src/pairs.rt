@@ -39,8 +39,10 @@ pub(crate) fn read_own_pair<'a>(
     if pair.quorum != quorum {
         return Err(other_quorum(number));
     }
-    match before {
-        Some(before) if before != pair => Err(other_pair(number)),
-        _ => Ok((pair, rest)),
+    if let Some(before) = before {
+        if pair != before {
+            return Err(other_pair(number));
+        }
     }
+    Ok((pair, rest))
 }
