@@ -1,5 +1,5 @@
 -- Of which pair what was handed over is.
-use Rattle.std.specs.Prelude.{◌≡◌, ◌≢◌, ◌⊎◌, ◌++◌, ℕ, List, Option, Some}
+use Rattle.std.specs.Prelude.{◌≡◌, ◌≢◌, ◌⊎◌, ◌++◌, ℕ, List, Option, IfSome}
 use Rattle.std.specs.List.{AllByRecursion}
 use Rattle.ft_types.specs.Guests.{GuestParts}
 use Rattle.ft_types.specs.Text.{line}
@@ -26,7 +26,7 @@ IsOtherPair guest quorum before number bytes fault =
     ((fault ≡ WithFrames (Handed number) OfPair) × ((pair : Pair) (rest : List ℕ) → IsOfPair guest pair bytes rest → ⊥)) ⊎
     ((pair : Pair) × (rest : List ℕ) × IsOfPair guest pair bytes rest ×
     (((fault ≡ WithFrames (Handed number) OfQuorum) × (pair.quorum ≢ quorum)) ⊎
-    ((fault ≡ WithFrames (Handed number) OfPair) × (pair.quorum ≡ quorum) × (earlier : Pair) × (before ≡ Some earlier) × (pair ≢ earlier))))
+    ((fault ≡ WithFrames (Handed number) OfPair) × (pair.quorum ≡ quorum) × (IfSome before (λ earlier. pair ≡ earlier) → ⊥))))
 
 -- the log is whole, and stood behind the line of this pair
 abbrev pub IsBehind : GuestParts → Pair → HandedLog → Type 0

@@ -1,6 +1,6 @@
 //! Of which pair what was handed over is.
 
-ghost use Rattle.std.specs.Prelude.{◌≡◌, ℕ, List, IfOk, IfErr, IfSome, IfNone};
+ghost use Rattle.std.specs.Prelude.{◌≡◌, ◌↔◌, ℕ, List, IfOk, IfErr, IfSome, IfNone, IsTrue};
 ghost use Rattle.live_primary.specs.Pairs.{IsOfPair, IsOtherPair};
 ghost use Rattle.wire.specs.declared.pairs.Pair.{Pair as pair_of_wire};
 
@@ -17,6 +17,23 @@ fn first_pair<'a>(guest: &Guest, bytes: &'a [u8]) -> Option<(Pair, &'a [u8])>
 {
     let (text, rest) = first_line(bytes)?;
     Some((read_pair(guest, text)?, rest))
+}
+
+/// Whether a pair is of this quorum.
+fn is_of(pair: &Pair, quorum: Quorum) -> bool
+    ensures { IsTrue result ↔ (pair.now.quorum ≡ quorum) }
+{
+    pair.quorum == quorum
+}
+
+/// Whether a pair is the one before, where there is one.
+fn is_one(pair: &Pair, before: Option<Pair>) -> bool
+    ensures { IsTrue result ↔ IfSome before (λ earlier. pair.now ≡ earlier) }
+{
+    match before {
+        Some(before) => *pair == before,
+        None => true,
+    }
 }
 
 /// The pair of what was handed over with this number, which is of this quorum and the one of those before, and what stands behind its line.
@@ -36,13 +53,13 @@ pub(crate) fn read_own_pair<'a>(
         return Err(other_pair(number));
     };
     let (pair, rest) = first;
-    if pair.quorum != quorum {
-        return Err(other_quorum(number));
-    }
-    if let Some(before) = before {
-        if pair != before {
-            return Err(other_pair(number));
+    if is_of(&pair, quorum) {
+        if is_one(&pair, before) {
+            Ok((pair, rest))
+        } else {
+            Err(other_pair(number))
         }
+    } else {
+        Err(other_quorum(number))
     }
-    Ok((pair, rest))
 }
