@@ -1,16 +1,37 @@
 -- Of which pair logs are that were handed over.
-use Rattle.std.proofs.Common.{◌≡◌, ℕ, List, [], ◌∷◌, ◌++◌, Option, None, Some, refl, sym, subst, ◌∙◌}
+use Rattle.std.proofs.Common.{◌≡◌, ℕ, List, [], ◌∷◌, ◌++◌, Option, None, Some, Bool, true, ◌&&◌, eqb, refl, sym, ap, subst, ◌∙◌}
 use Rattle.std.specs.Prelude.{IfSome, IfNone, ◌↔◌}
 use Rattle.std.specs.List.{AllByRecursion}
+use Rattle.std.proofs.lemmas.Bool.{and_parts, eqb-true, eq-eqb}
 use Rattle.ft_types.specs.Guests.{GuestParts}
 use Rattle.ft_types.specs.Text.{line}
 use Rattle.ft_types.specs.declared.quorum.Quorum.{Quorum}
 use Rattle.wire.specs.Fields.{HasNone}
 use Rattle.wire.specs.Pairs.{SaysPair}
 use Rattle.wire.specs.declared.pairs.Pair.{Pair}
+use Rattle.wire.proofs.PairFields.{quorum_same}
 use Rattle.stations.proofs.HandedLines.{one_line}
 use Rattle.leading.specs.declared.handed.HandedLog.{HandedLog}
 use Rattle.live_primary.specs.Pairs.{IsOfPair, IsBehind, AreOfPair}
+
+abbrev pair_of : Quorum → ℕ → Pair
+pair_of quorum name = record { quorum = quorum; name = name }
+
+-- pairs are one where their numbers are
+pub pairs_told : (a b : Pair) (told : Bool) →
+    told ≡ ((eqb a.quorum.keepers b.quorum.keepers && eqb a.quorum.need b.quorum.need) && eqb a.name b.name) → (told ≡ true) ↔ (a ≡ b)
+pairs_told a b told is = (
+  (λ yes.
+      let all = and_parts (eqb a.quorum.keepers b.quorum.keepers && eqb a.quorum.need b.quorum.need) (eqb a.name b.name) (sym is ∙ yes) in
+      let both = and_parts (eqb a.quorum.keepers b.quorum.keepers) (eqb a.quorum.need b.quorum.need) all.0 in
+      let quorum = quorum_same a.quorum b.quorum (eqb-true a.quorum.keepers b.quorum.keepers both.0) (eqb-true a.quorum.need b.quorum.need both.1) in
+      ap (λ (q : Quorum). pair_of q a.name) quorum ∙ ap (λ (n : ℕ). pair_of b.quorum n) (eqb-true a.name b.name all.1)),
+  (λ same. is ∙ rw (
+    eq-eqb a.quorum.keepers b.quorum.keepers (ap (λ (p : Pair). p.quorum.keepers) same),
+    eq-eqb a.quorum.need b.quorum.need (ap (λ (p : Pair). p.quorum.need) same),
+    eq-eqb a.name b.name (ap (λ (p : Pair). p.name) same),
+  ) refl),
+)
 
 -- bytes whose first line says of no pair are of none
 pub names_none : (guest : GuestParts) (bytes text rest : List ℕ) → HasNone 10 text → bytes ≡ line text ++ rest →

@@ -47,7 +47,7 @@ pub none_unless : {A : Type 0} (r : Option A) (P : Type 0) → ((IsSome r → �
 none_unless None P f = f (λ s. absurd cc)
 none_unless (Some a) P f = tt
 
-quorum_same : (a b : Quorum) → a.keepers ≡ b.keepers → a.need ≡ b.need → a ≡ b
+pub quorum_same : (a b : Quorum) → a.keepers ≡ b.keepers → a.need ≡ b.need → a ≡ b
 quorum_same a b keepers need = λ i. record {
   keepers = keepers i;
   need = need i;
