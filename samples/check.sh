@@ -189,18 +189,19 @@ fi
 
 # Three keepers over FIFOs: one is killed and begins again, two hand their logs over behind a fence, in some twenty seconds. Then primaries and clients
 # too: primaries are killed and paused.
-# keeps BUILD: a keeper over a log that is there says where it begins again and acknowledges it, and ends where its input does. rt's runner can't be asked for this:
-# its programs may not open /dev/stdout.
+# keeps BUILD: a log that is made and gets frames is handed over; its keeper says where it begins again and acknowledges it, and ends where its input does. rt's runner
+# can't be asked for this: its programs may not open /dev/stdout, and a log that is copied is none.
 keeps() {
-    rm -rf "$work/kept"
+    rm -rf "$work/kept" "$work/told"
     cp -R "$top/crates/live/data" "$work/kept"
-    if (cd "$work/kept" && "$1" keeper load_store.image 0 load_store.log from /dev/null to /dev/stdout) > "$work/told" 2> "$work/refused" &&
-        printf 'again 0 e3e11754\nack 1 0 6 e034cebb\n' | cmp -s - "$work/told" &&
-        cmp -s "$top/crates/live/data/load_store.log" "$work/kept/load_store.log"; then
+    if (cd "$work/kept" && "$1" make load_store.image 0 1 1 0123456789abcdef log && cat load_store.log > log &&
+        "$1" keeper load_store.image 0 log from /dev/null to /dev/stdout && "$1" hand load_store.image 0 log 1) >> "$work/told" 2> "$work/refused" &&
+        { printf 'again 0 e3e11754\nack 1 0 6 e034cebb\npair 1 1 0123456789abcdef 8596ae14\nhanded 1 0 189 a522c827\n'; cat "$work/kept/load_store.log"; } | cmp -s - "$work/told" &&
+        cmp -s "$top/crates/live/data/load_store.log" "$work/kept/log"; then
         pass
     else
         cat "$work/refused" >> "$work/told"
-        fail "a keeper over a log that is there, by $1" < "$work/told"
+        fail "a keeper over a log that is made, by $1" < "$work/told"
     fi
 }
 

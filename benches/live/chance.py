@@ -27,6 +27,7 @@ SECONDS = 60
 WAITED = 20  # so many seconds may pass until a process over FIFOs has done what it was sent last
 SAYS_ALL = "harts 1 pages 1 f00000b7 00000293 00001337 00135313 0040a103 fe510ee3 0060a623 0000a183 00010293 0030a423 fe9ff06f"
 SAID = 0x77123456
+MAKE = "make image 0 1 1 0123456789abcdef log".split()
 
 
 def sealed(image, text):
@@ -40,10 +41,11 @@ class Guest:
         self.image, words = image, lambda many: [f"0 word 0107{n % 7 + 1:04x} {n}\n" for n in range(many)]
         os.makedirs(folder)
         os.chdir(folder)
-        files = {"image": image, "none": b"", "log": b"", "requests": "".join([*words(9), "0 word 00000001\n", "0 from 3\n"]).encode()}
+        files = {"image": image, "none": b"", "requests": "".join([*words(9), "0 word 00000001\n", "0 from 3\n"]).encode()}
         for name, data in {**files, "out": b"", "frames": b"", "acks": b""}.items():
             with open(name, "wb") as file:
                 file.write(data)
+        self.does(live, *MAKE)
         self.handed = self.does(live, "hand", "image", "0", "log", "1")
         shutil.copy(".out", "handed")
         self.does(live, *"primary image 1 1 1 in requests out out to frames from none with handed".split())
@@ -51,7 +53,7 @@ class Guest:
         self.does(live, *"keeper image 0 log from frames to acks".split())
         self.acks, self.log, self.requests = contents("acks"), contents("log"), files["requests"]
         self.handed = self.does(live, "hand", "image", "0", "log", "2")
-        self.fences = contents("log.fences")
+        self.fences = contents("log.fences").partition(b"\n")[2]
         self.answers = b"".join(b"term 1 hart 0 number %d step %d word a007%04x\n" % (n, 300 * n, n % 7 + 1) for n in range(9))
         self.words = b"".join(b"0107%04x\n" % (n % 7 + 1) for n in range(9))
 
@@ -80,7 +82,7 @@ def lines_changed(chance, data, image):
         if places:
             start, end = chance.choice(places)
             lines[at] = lines[at][:start] + number + lines[at][end:]
-        if re.match(rb"(ack|again|fence|handed) ", lines[at]) and b" " in lines[at]:
+        if re.match(rb"(ack|again|fence|handed|pair|keeps) ", lines[at]) and b" " in lines[at]:
             lines[at] = sealed(image, lines[at].rsplit(b" ", 1)[0])[:-1]
     else:
         return bytes_changed(chance, data)
@@ -96,15 +98,32 @@ def times(chance, change, data, *more):
 
 def handed_changed(chance, data, image):
     """What was handed over, with a change of its frames, whose length is told as it is then, or of its bytes."""
-    line, _, frames = data.partition(b"\n")
-    how = chance.randrange(4)
+    pair, line, frames = (data.split(b"\n", 2) + [b"", b""])[:3]
+    how = chance.randrange(5)
+    change = lambda text: lines_changed(chance, text, image).replace(b"\n", b"")
     if how == 0:
         return bytes_changed(chance, data)
     if how == 1:
-        return lines_changed(chance, line, image).replace(b"\n", b"") + b"\n" + frames
+        return b"\n".join([change(pair), line, frames])
+    if how == 2:
+        return b"\n".join([pair, change(line), frames])
     frames = log_changed(chance, frames, image)
     words = line.split(b" ")
-    return sealed(image, b" ".join([*words[:3], b"%d" % len(frames)])) + frames if len(words) == 5 else data
+    return pair + b"\n" + sealed(image, b" ".join([*words[:3], b"%d" % len(frames)])) + frames if len(words) == 5 else data
+
+
+def frames_in(handed):
+    """What stands behind the lines of pair and keeper."""
+    return (handed.split(b"\n", 2) + [b"", b""])[2]
+
+
+def has_files(live, files):
+    """Makes the files: a log and its fences as they are made, with what they have behind that."""
+    for name, data in files.items():
+        if name == "log":
+            call(live, MAKE, SECONDS)
+        with open(name, "ab" if name == "log.fences" else "wb") as file:
+            file.write(data)
 
 
 def made(chance, guests):
@@ -122,7 +141,7 @@ def made(chance, guests):
         words = f"hand image 0 log {chance.choice([1, 2, 3, 4, 2**32 - 1])}"
     elif kind == "primary":
         handed = times(chance, handed_changed, guest.handed, image)
-        if chance.randrange(2) or is_long(handed.partition(b"\n")[2]):
+        if chance.randrange(2) or is_long(frames_in(handed)):
             handed = guest.handed
         files.update({"handed": handed, "requests": lines(guest.requests)})
         words = f"primary image {chance.choice([2, 2, 2, 2, 3])} 1 1 in requests out out to frames from acks with handed"
@@ -154,7 +173,7 @@ def otherwise(words, files, answer):
             return "the log lost a frame, or has a part of one"
         if re.search(rb"(?m)^(?!again 0 |ack \d+ 0 ).", contents("acks") or b""):
             return "it told a line of another form"
-    if words[0] == "hand" and status == 0 and out.partition(b"\n")[2] != files["log"][: len(out.partition(b"\n")[2])]:
+    if words[0] == "hand" and status == 0 and frames_in(out) != files["log"][: len(frames_in(out))]:
         return "it handed over what its log has not"
     if words[0] == "client":
         numbers = [int(line.split()[1]) for line in out.splitlines()]
@@ -209,9 +228,8 @@ def over_fifos(chance, live, guest):
     image, kind = guest.image, chance.choice(["keeper", "primary"])
     for name in ("one", "two"):
         os.mkfifo(name)
-    for name, data in {"image": image, "acks": b"", "out": b"", "frames": b"", "log": b"", "handed": guest.handed}.items():
-        with open(name, "wb") as file:
-            file.write(data)
+    files = {"image": image, "acks": b"", "out": b"", "frames": b"", "handed": guest.handed, **({"log": b""} if kind == "keeper" else {})}
+    has_files(live, files)
     if kind == "keeper":
         words = "keeper image 0 log from one two to acks".split()
         junk = [times(chance, bytes_changed, guest.frames) for _ in range(3)]
@@ -247,8 +265,10 @@ def one(live, seed, number, guests, at):
         wrong = over_fifos(chance, live, next(it for it in guests if it.image.startswith(b"harts 1\npages 1\nf00000b7")))
         return "over FIFOs", "done", wrong
     words, files = made(chance, guests)
-    for name, data in files.items():
-        with open(name, "wb") as file:
+    has_files(live, files)
+    if "log" in files and chance.randrange(10) == 0:
+        data = times(chance, lines_changed, contents("log.fences"), files["image"])
+        with open("log.fences", "wb") as file:
             file.write(data)
     answer = call(live, words, SECONDS)
     fault = re.match(rb"fault (file|\w+( \d+ [a-z]+| [a-z]+)?)", answer[2])

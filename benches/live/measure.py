@@ -149,13 +149,15 @@ def seconds_of(words, folder):
 
 def recorded(live, workbench, folder, steps, harts):
     """How long it takes to record so many steps of each hart: by `workbench run`, and by a primary whose inputs end at once."""
-    for name in ("none", "log", "frames", "out"):
+    for name in ("none", "frames", "out"):
         open(f"{folder}/{name}", "wb").close()
     with open(f"{folder}/image", "w") as file:
         file.write(counting(harts, steps))
+    subprocess.run([live, "make", "image", "0", "1", "1", "0" * 16, "log"], check=True, cwd=folder)
     with open(f"{folder}/handed", "wb") as file:
         subprocess.run([live, "hand", "image", "0", "log", "1"], check=True, cwd=folder, stdout=file)
-    os.remove(f"{folder}/log.fences")
+    for name in ("log", "log.fences"):
+        os.remove(f"{folder}/{name}")
     run = seconds_of([workbench, "run", "image", "none", "1000000", "recorded"], folder)
     return run, seconds_of([live, "primary", "image", "1", "1", "1", "in", "none", "out", "out", "to", "frames", "from", "none", "with", "handed"], folder)
 

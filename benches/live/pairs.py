@@ -33,6 +33,8 @@ class Pair:
         self.frames = [f"frames.{k}" for k in range(KEEPERS)]
         for name in ["in", "out", *self.frames, *sorted(set(self.acks))]:
             os.mkfifo(self.at(name))
+        self.name = os.urandom(8).hex()
+        self.unmade = [k for k in range(KEEPERS) if self.make(k) != 0]
         self.keepers = [None] * KEEPERS
         for k in range(KEEPERS):
             self.keep(k)
@@ -57,6 +59,18 @@ class Pair:
                 env={**os.environ, **self.around.get(name, {})},
                 preexec_fn=onto(self.on.get(name)),
             )
+
+    def make(self, k):
+        """Makes keeper K's log: the status. Where it is refused what is left of it goes away, and it is made with nothing refused."""
+        make = lambda: self.start("make", "make", self.image, str(k), str(KEEPERS), str(NEED), self.name, f"log.{k}").wait()
+        status = make()
+        if status != 0:
+            self.around = {}
+            for name in (f"log.{k}", f"log.{k}.fences"):
+                if os.path.exists(self.at(name)):
+                    os.remove(self.at(name))
+            make()
+        return status
 
     def keep(self, k):
         """Starts keeper K. Where it is to be told, what it acknowledges goes into the file `told.K` too."""

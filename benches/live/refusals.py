@@ -21,10 +21,10 @@ from pairs import KEEPERS, Pair, lost, outputs, served
 IMAGE = f"{TOP}/guests/images/service.image"
 WORDS = [0x01070011, 0x01070012, 0x01080012, 0x03070012, 0x02070011, 0x01070012]
 SECONDS = float(os.environ.get("SECONDS_EACH", "20"))
-NAMES, KINDS, ERRORS = ["keeper.0", "hand", "primary", "client"], ["write", "sync", "open", "other"], ["full", "once"]
-# calls that there must be: what is acknowledged or handed over is on disk, a keeper cuts its log as it begins, and what was handed over goes away
+NAMES, KINDS, ERRORS = ["make", "keeper.0", "hand", "primary", "client"], ["write", "sync", "open", "other"], ["full", "once"]
+# calls that there must be: what is made, acknowledged or handed over is on disk, a keeper cuts its log as it begins, and what was handed over goes away
 FAULTS = re.compile(r"(fault [^\n]+\n)+")
-OWED = {("keeper.0", "sync"), ("hand", "sync"), ("keeper.0", "other"), ("primary", "other")}
+OWED = {("make", "sync"), ("keeper.0", "sync"), ("hand", "sync"), ("keeper.0", "other"), ("primary", "other")}
 
 
 def waits(what):
@@ -51,6 +51,8 @@ class Run:
         with open(self.pair.at("words"), "w") as file:
             file.write("".join(f"{word:08x}\n" for word in WORDS))
         self.clients = 0
+        if self.pair.unmade:
+            self.is_told("make", 1)
 
     def calls(self):
         with open(self.tell, "rb") as file:

@@ -1,6 +1,6 @@
 #!/bin/sh
 # refusals.sh [LIVE [WORKBENCH [quick]]]: runs a pair of processes over FIFOs, with three keepers of whom two must hold an answer and a client that has six words,
-# and refuses each call that a keeper, whoever hands a log over, the primary or the client makes of write, fsync or fdatasync, open, ftruncate or unlink, a pair for
+# and refuses each call that whoever makes logs, a keeper, whoever hands a log over, the primary or the client makes of write, fsync or fdatasync, open, ftruncate or unlink, a pair for
 # each: that one call alone, with EIO, or from that one on, with half of it done and ENOSPC, as on a disk that is full (refuse_calls.c, which is loaded before the
 # programs' C library). The process must end with status 1 and one line of fault, or go on; what ended begins again, or the next term is led, with nothing refused.
 # Then the client must have the answers that the service gives to the words in order, what was printed before must begin them, the machine to which the logs lead must have

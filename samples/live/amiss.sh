@@ -81,6 +81,13 @@ seal() {
     echo "$2 $({ printf "$(sed 's/../\\x&/g' <<< "$digest")"; printf %s "$2"; } | sha256sum | cut -c1-8)"
 }
 
+# make_log K LOG [FILE]: makes keeper K's log, with the frames of a file where one is told.
+pair=$(od -An -N8 -tx8 /dev/urandom | tr -d ' ')
+make_log() {
+    if ! "$live" make "$image" "$1" 3 2 "$pair" "$2" 2> unmade; then fail "make $2" < unmade; fi
+    if [ $# = 3 ]; then cat "$3" > "$2"; fi
+}
+
 # keep K [WORDS..]: starts keeper K, over two inputs and two outputs, by these words where they are told; its process is then in `keeper`.
 keep() {
     local k=$1
@@ -121,12 +128,13 @@ ask() {
 mkfifo in out in.b out.b nobody
 for k in 0 1 2; do
     mkfifo "frames.$k" "frames.$k.b" "acks.$k" "acks.$k.b"
+    make_log "$k" "log.$k"
     keep "$k"
 done
 : > faults.primary
 
 # The fences of another guest are none; a torn one is ended by the next.
-seal "$other" 'fence 9' > log.0.fences
+seal "$other" 'fence 9' >> log.0.fences
 printf 'fence 9 0000' >> log.0.fences
 hand 1 0 1
 lead 1 '' "${handed[@]}"
@@ -264,7 +272,7 @@ printf '0 5 word 01070011\n' > script
 "$workbench" run "$image" script 1000 frames.own > /dev/null
 
 # By another name the log is the same file, and its fences are.
-cp frames.own own
+make_log 0 own frames.own
 ln -s own alias
 says 'a log that is handed over by a link' 0 '' hand "$image" 0 alias 8
 says 'it is fenced off by its own name' 1 'fault fence 8' hand "$image" 0 own 8
@@ -274,15 +282,16 @@ is 'it acknowledges nothing behind the fence' 1 "$(wc -l < acks.alias)"
 ln -s nowhere dangling
 for word in "hand $image 0 dangling 1" "keeper $image 0 dangling from frames.own to acks.alias"; do says 'a link to no file' 1 'fault log link' $word; done
 ln own second
-for word in "hand $image 0 own 9" "hand $image 0 second 9" "keeper $image 0 own from frames.own to acks.alias"; do
+for word in "hand $image 0 own 9" "keeper $image 0 own from frames.own to acks.alias" "keeper $image 0 second from frames.own to acks.alias"; do
     says 'a log with two names' 1 'fault log link' $word
 done
+says 'a second name, beside which no fences lie' 1 'fault file second.fences' hand "$image" 0 second 9
 rm second
 
 # A log that is renamed under its keeper, and one that is gone.
 for how in 'mv renamed renamed.1' 'rm renamed'; do
-    : > renamed
-    rm -f renamed.in
+    rm -f renamed renamed.fences renamed.in
+    make_log 0 renamed
     runs_on 0 renamed renamed.in
     cp renamed copied
     $how
@@ -294,6 +303,7 @@ for how in 'mv renamed renamed.1' 'rm renamed'; do
 done
 
 # A file of fences that is gone lowers no fence that a keeper saw.
+make_log 0 fenced
 runs_on 0 fenced fenced.in
 says 'the log of a keeper that runs' 0 '' hand "$image" 0 fenced 8
 cat frames.own >&7
@@ -313,18 +323,105 @@ stop "$holder"
 # A disk that does not take what was added, once.
 if command -v cc > /dev/null; then
     cc -O1 -shared -fPIC -o refuse.so "$top/benches/live/refuse_calls.c" -ldl
-    : > acks.refused
+    : > acks.unsynced
+    make_log 0 unsynced
+    make_log 0 unfenced
     # the first call is for the folder, the second for the log
-    LD_PRELOAD=$work/refuse.so CALLS_OF=sync CALLS_AS=once CALLS_AT=2 says 'a log that is not brought to disk' 1 'fault file refused' \
-        keeper "$image" 0 refused from frames.own to acks.refused
-    is 'nothing is acknowledged' 1 "$(wc -l < acks.refused)"
-    says 'its keeper begins no more' 1 'fault log failed' keeper "$image" 0 refused from frames.own to acks.refused
-    says 'and it is not handed over' 1 'fault log failed' hand "$image" 0 refused 1
+    LD_PRELOAD=$work/refuse.so CALLS_OF=sync CALLS_AS=once CALLS_AT=2 says 'a log that is not brought to disk' 1 'fault file unsynced' \
+        keeper "$image" 0 unsynced from frames.own to acks.unsynced
+    is 'nothing is acknowledged' 1 "$(wc -l < acks.unsynced)"
+    says 'its keeper begins no more' 1 'fault log failed' keeper "$image" 0 unsynced from frames.own to acks.unsynced
+    says 'and it is not handed over' 1 'fault log failed' hand "$image" 0 unsynced 1
     LD_PRELOAD=$work/refuse.so CALLS_OF=sync CALLS_AS=once CALLS_AT=3 says 'a fence that is not brought to disk' 1 'fault file unfenced.fences' hand "$image" 0 unfenced 1
     says 'its log is not handed over' 1 'fault log failed' hand "$image" 0 unfenced 2
 else
     echo 'left out a disk that does not take what was added, since no C compiler is installed'
 fi
+
+# Files that are not those that were made for this keeper. refused WHAT LINE [K [LOG [IMAGE]]]: its log neither runs nor is handed over, and all files stay as they are.
+refused() {
+    local what=$1 line=$2 k=${3:-0} log=${4:-mine} of=${5:-$image} before
+    : > acks.none
+    before=$(sha256sum $(ls mine* theirs* lgo* 2> /dev/null))
+    says "$what, keeper" 1 "$line" keeper "$of" "$k" "$log" from frames.own to acks.none
+    says "$what, hand" 1 "$line" hand "$of" "$k" "$log" 8
+    is "$what: nothing is acknowledged" '' "$(cat acks.none)"
+    is "$what: nothing is changed" "$before" "$(sha256sum $(ls mine* theirs* lgo* 2> /dev/null))"
+}
+# whole: mine and its fences are those that were made.
+whole() {
+    rm -f mine mine.fences
+    make_log 0 mine frames.own
+}
+whole
+make_log 1 theirs frames.own
+cp mine copy
+cp mine.fences copy.fences
+refused 'a name that is mistyped' 'fault file lgo' 0 lgo
+refused 'another number' 'fault log keeper' 1
+refused "another keeper's log" 'fault log keeper' 0 theirs
+refused 'another guest' 'fault log line' 0 mine "$other"
+: > lgo
+refused 'a log that nobody made' 'fault file lgo.fences' 0 lgo
+: > lgo.fences
+refused 'fences that nobody made' 'fault log line' 0 lgo
+head -c 40 mine.fences > lgo.fences
+refused 'a first line that is torn' 'fault log line' 0 lgo
+rm lgo lgo.fences
+rm mine
+: > mine
+refused 'an empty log under an old number' 'fault log other'
+whole
+rm mine
+cp copy mine
+refused 'a log that was restored' 'fault log other'
+rm mine mine.fences
+cp copy mine
+cp copy.fences mine.fences
+refused 'a log that was restored with its fences' 'fault log other'
+whole
+mv theirs mine
+refused "a log that was renamed over another's" 'fault log other'
+mv theirs.fences mine.fences
+refused "a log that was renamed over another's with its fences" 'fault log keeper'
+whole
+cp mine.fences copy.fences
+rm mine.fences
+refused 'fences that were removed' 'fault file mine.fences'
+cp copy.fences mine.fences
+refused 'fences that were restored' 'fault log fences'
+mv copy.fences mine.fences
+refused 'fences that were copied' 'fault log fences'
+whole
+mv mine.fences away
+ln -s away mine.fences
+refused 'fences that are a link' 'fault log fences'
+rm mine.fences
+mv away mine.fences
+says 'files that were renamed and back' 0 '' hand "$image" 0 mine 8
+says 'their fence' 1 'fault fence 8' hand "$image" 0 mine 8
+
+# What is there is not made, and left as it is. unmade WHAT: the files of that name.
+unmade() {
+    local before
+    before=$(sha256sum $(ls new* 2> /dev/null))
+    says "$1" 1 'fault log there' make "$image" 0 3 2 "$pair" new
+    is "$1: nothing is changed" "$before" "$(sha256sum $(ls new* 2> /dev/null))"
+    rm -f new new.fences new.failed
+}
+: > new
+unmade 'a log that is there'
+: > new.fences
+unmade 'fences that are there'
+: > new.failed
+unmade 'a mark that is there'
+ln -s nowhere new
+says 'a link that is there' 1 'fault log there' make "$image" 0 3 2 "$pair" new
+is 'it leads nowhere' no "$([ -e nowhere ] && echo yes || echo no)"
+rm new
+says 'a folder that is not there' 1 'fault file none/new' make "$image" 0 3 2 "$pair" none/new
+make_log 0 new
+unmade 'a log that was made'
 
 # Logs that are handed over and are none. refuses WHAT LINE FILES..: the fault that it is.
 refuses() {
@@ -335,8 +432,9 @@ refuses() {
     is "$what: status" 1 "$?"
     is "$what: line" "$line" "$(cat err)"
 }
-# as_handed K FILE: what keeper K would hand over to term 7, if the file were its log.
+# as_handed K FILE: what keeper K of two who both must hold an answer would hand over to term 7, if the file were its log.
 as_handed() {
+    seal "$image" "pair 2 2 $pair"
     seal "$image" "handed 7 $1 $(wc -c < "$2")"
     cat "$2"
 }
@@ -370,8 +468,30 @@ refuses 'the other one' 'fault live 1' handed.too
 : > sent
 "$live" primary "$image" 7 2 2 in none out told to sent from none with handed handed.too 2> err
 is 'both of them' '0 ' "$? $(cat err)"
-seal "$image" "handed 7 0 $(wc -c < log.0)" | tr 7 8 | cat - log.0 > handed
+{ seal "$image" "pair 2 2 $pair"; seal "$image" "handed 7 0 $(wc -c < log.0)" | tr 7 8; cat log.0; } > handed
 refuses 'a seal that is not its own' 'fault handed 0 line' handed
+
+# Logs of other pairs, and of the same by other words: they stay.
+as_handed 0 clash > handed
+seal "$image" "handed 7 1 $(wc -c < clash)" | cat - clash > handed.too
+refuses 'a log of no pair' 'fault handed 1 pair' handed handed.too
+{ seal "$image" "pair 2 2 fedcba9876543210"; tail -n +2 handed; } > handed.too
+refuses 'logs of two pairs' 'fault handed 1 pair' handed handed.too
+{ seal "$other" "pair 2 2 $pair"; tail -n +2 handed; } > handed.too
+refuses "a log of another guest's pair" 'fault handed 0 pair' handed.too handed
+{ seal "$image" "pair 2 1 $pair"; tail -n +2 handed; } > handed.too
+refuses 'a log of which one keeper is enough' 'fault handed 1 quorum' handed handed.too
+{ seal "$image" "pair 3 2 $pair"; tail -n +2 handed; } > handed.too
+refuses 'a log of three keepers' 'fault handed 0 quorum' handed.too
+is 'they stay' yes "$([ -s handed ] && [ -s handed.too ] && echo yes)"
+make_log 0 a
+make_log 1 b
+"$live" hand "$image" 0 a 7 > handed
+"$live" hand "$image" 1 b 7 > handed.too
+"$live" primary "$image" 7 3 3 in none out none to none from none with handed 2> err
+is 'three of three in place of two' '1 fault handed 0 quorum' "$? $(cat err)"
+"$live" primary "$image" 7 3 2 in none out told to sent from none with handed handed.too 2> err
+is 'two of three' '0 ' "$? $(cat err)"
 
 echo "$passed passed, $failed failed"
 [ "$failed" = 0 ]

@@ -110,6 +110,7 @@ begin() {
         done
     done
     for k in 0 1 2; do
+        make_log "$k" "$1/log.$k"
         keep "$1" "$k"
         keeper[$k]=$started
     done

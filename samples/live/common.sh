@@ -47,6 +47,12 @@ stop() { if runs "$1"; then { kill -9 "$1" && wait "$1"; } 2> /dev/null; fi; }
 # ask SEED FOLDER NAME: writes `many` random requests of the guest, and its answers to them, each as the client prints it.
 ask() { awk -v seed="$1" -v many="$many" -v words="$2/$3.words" -v answers="$2/$3.wanted" -f "$top/samples/live/$guest.awk"; }
 
+# The name of the pairs, of three keepers of whom two must hold an answer.
+pair=$(od -An -N8 -tx8 /dev/urandom | tr -d ' ')
+
+# make_log K LOG: makes keeper K's log.
+make_log() { if ! "$live" make "$image" "$1" 3 2 "$pair" "$2" 2> "$work/unmade"; then fail "make $2" < "$work/unmade"; fi; }
+
 # Keepers acknowledge by a path each, or, with ACKS=one, all by one.
 acks=${ACKS:-each}
 

@@ -34,6 +34,7 @@ begin() {
         for k in 0 1 2; do mkfifo "$1/frames.$k.$s" "$1/acks.$k.$s"; done
     done
     for k in 0 1 2; do
+        make_log "$k" "$1/log.$k"
         keep "$1" "$k"
         keeper[$k]=$started
     done
@@ -107,7 +108,10 @@ split() {
     kill -STOP "$first"
     choose
     if [ "$2" = copies ]; then
-        for k in $heirs; do cp "$at/log.$k" "$at/copy.$k"; done
+        for k in $heirs; do
+            make_log "$k" "$at/copy.$k"
+            cat "$at/log.$k" > "$at/copy.$k"
+        done
         hand "$at" 2 "$at/copy" $heirs
         kill -CONT "$first"
         has "$at/answers.one" "$((many / 2))" "$one"
@@ -162,9 +166,12 @@ refuses() {
 # Files as inputs and outputs are read and written once, and a primary and a client end.
 ask 1 "$work" files
 awk '{ print "0 word", $1, NR - 1 }' "$work/files.words" > "$work/requests"
-for name in none frames answers log.0; do : > "$work/$name"; done
+for name in none frames answers; do : > "$work/$name"; done
+refuses 'a log is made' 0 '' make "$image" 0 1 1 "$pair" "$work/log.0"
 "$live" hand "$image" 0 "$work/log.0" 1 > "$work/handed"
 cp "$work/handed" "$work/again"
+make_log 0 "$work/third"
+"$live" hand "$image" 0 "$work/third" 1 > "$work/of.three"
 leads=(in "$work/requests" out "$work/answers" to "$work/frames" from "$work/none" with)
 refuses 'a primary over files' 0 '' primary "$image" 1 1 1 "${leads[@]}" "$work/handed"
 is 'it tells nothing that no keeper has' 0 "$(wc -c < "$work/answers")"
@@ -181,9 +188,10 @@ refuses 'a primary without what was handed over' 2 'fault usage' primary "$image
 refuses 'a need above the keepers' 2 'fault usage' primary "$image" 1 1 2 "${leads[@]}" "$work/again"
 refuses 'two paths to three keepers' 2 'fault usage' primary "$image" 1 3 2 in "$work/none" out "$work/none" to "$work/none" "$work/none" from "$work/none" with "$work/again"
 refuses 'another term' 1 'fault handed term' primary "$image" 2 1 1 "${leads[@]}" "$work/again"
-refuses 'one of two keepers' 1 'fault live 1' primary "$image" 1 3 2 "${leads[@]}" "$work/again"
-refuses 'nothing was handed over' 1 'fault handed 0 line' primary "$image" 1 1 1 "${leads[@]}" "$work/none"
-refuses "another guest's" 1 'fault handed 0 line' primary "$top/samples/four_harts.image" 1 1 1 "${leads[@]}" "$work/again"
+refuses 'one of two keepers' 1 'fault live 1' primary "$image" 1 3 2 "${leads[@]}" "$work/of.three"
+refuses 'another number of keepers' 1 'fault handed 0 quorum' primary "$image" 1 3 2 "${leads[@]}" "$work/again"
+refuses 'nothing was handed over' 1 'fault handed 0 pair' primary "$image" 1 1 1 "${leads[@]}" "$work/none"
+refuses "another guest's" 1 'fault handed 0 pair' primary "$top/samples/four_harts.image" 1 1 1 "${leads[@]}" "$work/again"
 printf x >> "$work/again"
 refuses 'a stream that goes on' 1 'fault handed 0 length' primary "$image" 1 1 1 "${leads[@]}" "$work/again"
 printf '01070011\n0107\n' > "$work/bad.words"

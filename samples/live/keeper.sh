@@ -85,6 +85,13 @@ hear() {
     done
 }
 
+# make_log K LOG [FRAMES]: makes keeper K's log, of a pair of five keepers, with the frames of a file.
+pair=$(od -An -N8 -tx8 /dev/urandom | tr -d ' ')
+make_log() {
+    if ! "$live" make "$image" "$1" 5 3 "$pair" "$2" 2> "$work/unmade"; then fail "make $2" < "$work/unmade"; fi
+    if [ $# = 3 ]; then cat "$3" > "$2"; fi
+}
+
 # keep ROUND K: starts keeper K of a round, whose process is then `started`.
 keep() {
     "$live" keeper "$image" "$2" "$1/log.$2" from "$1/frames.$2" to "$1/acks.$2" 2>> "$1/faults.$2" &
@@ -105,11 +112,12 @@ inside() {
         }' "$1"
 }
 
-# frames_of HANDED FILE: writes the frames of what was handed over to a file, and prints its first line without its seal.
+# frames_of HANDED FILE: writes the frames of what was handed over to a file, and prints the line before them without its seal.
 frames_of() {
-    local line
-    line=$(head -n 1 "$1")
-    tail -c "+$((${#line} + 2))" "$1" > "$2"
+    local pair line
+    pair=$(head -n 1 "$1")
+    line=$(sed -n 2p "$1")
+    tail -c "+$((${#pair} + ${#line} + 3))" "$1" > "$2"
     echo "${line% *}"
 }
 
@@ -119,6 +127,7 @@ round() {
     mkdir "$at"
     for k in 0 1 2; do
         mkfifo "$at/frames.$k" "$at/acks.$k"
+        make_log "$k" "$at/log.$k"
         keep "$at" "$k"
         process[$k]=$started
         hear "$at/acks.$k" "$at/said.$k" &
@@ -152,7 +161,7 @@ round() {
     "$workbench" replay "$image" "$at/log.$k" > "$at/text" 2>&1
     if cmp -s "$work/text" "$at/text"; then pass; else fail "round $1: the replay of log $k" < "$at/text"; fi
     for k in $heirs; do
-        is "round $1: keeper $k hands over" "handed 2 $k $(($(wc -c < "$at/handed.$k") - $(head -n 1 "$at/handed.$k" | wc -c)))" "$(frames_of "$at/handed.$k" "$at/heir.$k")"
+        is "round $1: keeper $k hands over" "handed 2 $k $(($(wc -c < "$at/handed.$k") - $(head -n 2 "$at/handed.$k" | wc -c)))" "$(frames_of "$at/handed.$k" "$at/heir.$k")"
         inside "$at/said.$k" "$(counts "$at/heir.$k")" > "$at/outside.$k"
         if [ -s "$at/outside.$k" ]; then fail "round $1: keeper $k acknowledged more than it handed over" < "$at/outside.$k"; else pass; fi
         grep -c '^ack 1' "$at/said.$k" >> "$work/tally"
@@ -194,6 +203,7 @@ for number in $(seq "$rounds"); do round "$number"; done
 
 # Files as inputs and outputs are read and written once, and the keeper ends.
 : > "$work/acks"
+make_log 4 "$work/log"
 refuses 'a keeper over a file' 0 '' keeper "$image" 4 "$work/log" from "$work/run.log" to "$work/acks"
 is 'it asks for all frames' 'again 4' "$(cut_line 1 "$work/acks")"
 is 'it acknowledges the end' "ack 1 4 $end" "$(tail -n 1 "$work/acks" | sed 's/ [0-9a-f]*$//')"
@@ -206,6 +216,7 @@ for frame in "$work"/frames/*; do
     number=$((10#$(basename "$frame")))
     cat "$frame" >> "$work/third.$((number % 3))"
 done
+make_log 4 "$work/thirds"
 refuses 'frames over three inputs' 0 '' keeper "$image" 4 "$work/thirds" from "$work/third.0" "$work/third.1" "$work/third.2" to "$work/acks"
 is 'all of them are acknowledged' "ack 1 4 $end" "$(tail -n 1 "$work/acks" | sed 's/ [0-9a-f]*$//')"
 "$workbench" replay "$image" "$work/thirds" > "$work/replayed" 2>&1
@@ -214,6 +225,7 @@ if cmp -s "$work/text" "$work/replayed"; then pass; else fail 'the replay of wha
 # One output, which nobody reads: once it is full, the input whose frames it acknowledges waits, and what another one brings is logged.
 mkfifo "$work/often" "$work/once" "$work/unread"
 : > "$work/written"
+make_log 4 "$work/unheard"
 "$live" keeper "$image" 4 "$work/unheard" from "$work/often" "$work/once" to "$work/unread" 2> "$work/err" &
 keeper=$!
 sleep 60 < "$work/unread" &
@@ -233,7 +245,8 @@ stop "$writer"
 
 # A rest that is less than a frame is cut off.
 size=$(wc -c < "$work/run.log")
-head -c "$((size - 7))" "$work/run.log" > "$work/torn"
+head -c "$((size - 7))" "$work/run.log" > "$work/begun"
+make_log 0 "$work/torn" "$work/begun"
 : > "$work/nothing"
 refuses 'a torn log' 0 '' keeper "$image" 0 "$work/torn" from "$work/nothing" to "$work/acks"
 is 'its rest is cut off' "$((size - $(wc -c < "$work/frames/$(ls "$work/frames" | tail -n 1)")))" "$(wc -c < "$work/torn")"
@@ -242,32 +255,36 @@ is 'its rest is cut off' "$((size - $(wc -c < "$work/frames/$(ls "$work/frames" 
 refuses 'no words' 2 'fault usage'
 refuses 'a keeper without outputs' 2 'fault usage' keeper "$image" 0 "$work/log" from "$work/run.log"
 refuses 'a sixth keeper' 2 'fault usage' keeper "$image" 5 "$work/log" from "$work/run.log" to "$work/acks"
+refuses 'a log of a fourth keeper of three' 2 'fault usage' make "$image" 3 3 2 "$pair" "$work/none"
+refuses 'a pair of another form' 2 'fault usage' make "$image" 0 3 2 "${pair%?}" "$work/none"
+refuses 'a pair in upper case' 2 'fault usage' make "$image" 0 3 2 0123456789ABCDEF "$work/none"
 refuses 'term 0' 2 'fault usage' hand "$image" 0 "$work/log" 0
 refuses 'a number of another form' 2 'fault usage' hand "$image" 00 "$work/log" 1
 
 # Logs.
-cp "$work/run.log" "$work/broken"
+make_log 0 "$work/broken" "$work/run.log"
 printf 'x' >> "$work/broken"
 refuses 'a log at fault' 1 'fault log frame 1' keeper "$image" 0 "$work/broken" from "$work/nothing" to "$work/acks"
 is 'it is left as it is' "$((size + 1))" "$(wc -c < "$work/broken")"
 refuses 'a log at fault, handed over' 1 'fault log frame 1' hand "$image" 0 "$work/broken" 2
 "$workbench" run "$top/samples/hand_over.image" "$top/samples/hand_over.script" 100 "$work/other.log" > "$work/other.text"
-cp "$work/other.log" "$work/foreign"
+make_log 0 "$work/foreign" "$work/other.log"
 refuses "another guest's log" 1 'fault log guest' keeper "$image" 0 "$work/foreign" from "$work/nothing" to "$work/acks"
 refuses "another guest's log, handed over" 1 'fault log guest' hand "$image" 0 "$work/foreign" 2
 mkfifo "$work/waits"
-"$live" keeper "$image" 0 "$work/log" from "$work/waits" to "$work/acks" &
+"$live" keeper "$image" 4 "$work/log" from "$work/waits" to "$work/acks" &
 holder=$!
 for _ in $(seq 100); do
-    if [ "$(grep -c '^again 0' "$work/acks")" -gt 1 ]; then break; fi
+    if [ "$(grep -c '^again 4' "$work/acks")" -gt 3 ]; then break; fi
     sleep 0.05
 done
-refuses 'a log that another keeper has' 1 'fault log locked' keeper "$image" 1 "$work/log" from "$work/nothing" to "$work/acks"
+refuses 'a log that another keeper has' 1 'fault log locked' keeper "$image" 4 "$work/log" from "$work/nothing" to "$work/acks"
 stop "$holder"
 
 # Terms.
 refuses 'a log is handed over' 0 '' hand "$image" 4 "$work/log" 3
-is 'its first line' "handed 3 4 $size" "$(head -n 1 "$work/out" | sed 's/ [0-9a-f]*$//')"
+is 'its first line' "pair 5 3 $pair" "$(head -n 1 "$work/out" | sed 's/ [0-9a-f]*$//')"
+is 'its second line' "handed 3 4 $size" "$(sed -n 2p "$work/out" | sed 's/ [0-9a-f]*$//')"
 refuses 'to the same term' 1 'fault fence 3' hand "$image" 4 "$work/log" 3
 printf 'fence 9 0000' >> "$work/log.fences"
 refuses 'behind a torn fence' 0 '' hand "$image" 4 "$work/log" 4
@@ -278,6 +295,8 @@ is 'it acknowledges nothing of an earlier term' 'again 4' "$(sed 's/ [0-9a-f]*$/
 
 # Inputs and outputs.
 printf 'VFx' > "$work/bad"
+for n in 1 2 4 5 6; do make_log 0 "$work/new.$n"; done
+"$live" make "$top/samples/hand_over.image" 0 5 3 "$pair" "$work/new.3"
 refuses 'an input at fault' 1 'fault input 1 frame 2' keeper "$image" 0 "$work/new.1" from "$work/run.log" "$work/bad" to "$work/acks"
 if cmp -s "$work/run.log" "$work/new.1"; then pass; else fail 'the other input is taken' < /dev/null; fi
 refuses "another guest's frames" 1 'fault input 0 guest' keeper "$image" 0 "$work/new.2" from "$work/other.log" to "$work/acks"

@@ -18,7 +18,7 @@ finish() {
 trap finish EXIT
 if [ ! -x "$live" ]; then
     echo 'live is built, without a proof, in some minutes' >&2
-    "$top/samples/keep_program.sh" live "$at/built" hand image 0 log 1
+    "$top/samples/keep_program.sh" live "$at/built" make image 0 1 1 0000000000000000 log
     live=$at/built/program
 fi
 cd "$at"
@@ -56,7 +56,9 @@ lua() {
     printf "$(tr -d '\n' < answers)" | tr -d '\0'
 }
 
+pair=$(od -An -N8 -tx8 /dev/urandom | tr -d ' ')
 for k in 0 1 2; do
+    "$live" make "$image" "$k" 3 2 "$pair" "log.$k"
     "$live" keeper "$image" "$k" "log.$k" from "frames.$k" to "acks.$k" &
 done
 case $guest in

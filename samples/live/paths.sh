@@ -25,7 +25,10 @@ begin() {
         for k in 0 1 2; do mkfifo "frames.$k$s" "acks.$k$s"; done
     done
     if [ $# = 0 ]; then return; fi
-    for k in 0 1 2; do keep "$k"; done
+    for k in 0 1 2; do
+        make_log "$k" "log.$k"
+        keep "$k"
+    done
     sleep 0.3
 }
 
@@ -143,7 +146,8 @@ for acks in each one; do
     is "who says that it has read makes nobody wait, acks=$acks" yes "$([ "$(wc -c < log.0)" -gt "$before" ] && echo yes)"
     # What keepers say is heard: one that lost its log asks for all frames.
     stop "${keeper[2]}"
-    rm log.2
+    rm log.2 log.2.fences
+    make_log 2 log.2
     keep 2
     for _ in $(seq 20); do printf '0 word 00000bb9 3000\n' | timeout 2 tee in > /dev/null; done
     sleep 2
@@ -160,7 +164,7 @@ words 30 | awk '{ print "0 word", $1, NR - 1 }' > requests
 : > none
 : > answers
 : > frames
-: > first
+"$live" make "$image" 0 1 1 "$pair" first
 "$live" hand "$image" 0 first 1 > handed
 "$live" primary "$image" 1 1 1 in requests out answers to frames from none with handed
 at=$((40 + $(od -An -tu4 -j4 -N4 frames)))
@@ -171,6 +175,7 @@ cat frame.0 frame.1 > wanted
 late=0
 for n in 0 1 2 3 4 5 6 7 8 9; do
     rm -f a b acks log log.fences
+    make_log 0 log
     mkfifo a b acks
     exec 7<> acks
     head -c 65516 /dev/zero >&7 # room for `again 0 S` alone

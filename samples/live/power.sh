@@ -24,7 +24,10 @@ begin() {
     mkdir "$1"
     cd "$1" || exit 2
     mkfifo in out
-    for k in 0 1 2; do mkfifo "frames.$k" "acks.$k"; done
+    for k in 0 1 2; do
+        mkfifo "frames.$k" "acks.$k"
+        LD_PRELOAD=$work/notes.so NOTES_SKIP=$skip make_log "$k" "log.$k"
+    done
     : > answers.before
     term=0
 }

@@ -75,6 +75,10 @@ pub enum FramesFault {
     Term,
     /// They were handed over by a number that is no keeper's.
     Keeper,
+    /// No line before them says of which pair they are, or it is not that of the first ones.
+    Pair,
+    /// The line before them says another number of keepers, or of those that must hold an output.
+    Quorum,
 }
 
 impl FramesFault {
@@ -88,6 +92,8 @@ impl FramesFault {
             FramesFault::Torn => " torn",
             FramesFault::Term => " term",
             FramesFault::Keeper => " keeper",
+            FramesFault::Pair => " pair",
+            FramesFault::Quorum => " quorum",
         }
     }
 
@@ -118,6 +124,16 @@ pub enum Fault {
     Link,
     /// Another file has the log's name.
     Moved,
+    /// One of the files that were to be made is there.
+    There,
+    /// The first line of the fences says of no keeper of this guest that they are its.
+    NoLine,
+    /// The log is another keeper's.
+    OtherKeeper,
+    /// The log is another file than the one that was made.
+    OtherLog,
+    /// The fences are another file than the one that was made.
+    OtherFences,
     /// What is wrong with the frames that are there.
     Frames(Frames, FramesFault),
     /// The log was handed over to this term, which is not below the one that asks.
@@ -162,6 +178,11 @@ impl Fault {
             Fault::Failed => "log failed",
             Fault::Link => "log link",
             Fault::Moved => "log moved",
+            Fault::There => "log there",
+            Fault::NoLine => "log line",
+            Fault::OtherKeeper => "log keeper",
+            Fault::OtherLog => "log other",
+            Fault::OtherFences => "log fences",
             Fault::Frames(frames, _) => frames.words(),
             Fault::Fenced(_) => "fence",
             Fault::Live(_) => "live",

@@ -15,8 +15,8 @@ pub trait Paths {
     /// Opens a file that is there, to which is added.
     fn open_to_add(&self, path: &str) -> io::Result<File>;
 
-    /// Opens a file to be read and added to, and makes it where it is not there.
-    fn make_to_keep(&self, path: &str) -> io::Result<File>;
+    /// Opens a file that is there, to be read and added to.
+    fn open_to_keep(&self, path: &str) -> io::Result<File>;
 
     /// Makes a file of a name that is not there.
     fn make_new(&self, path: &str) -> io::Result<File>;
@@ -40,12 +40,8 @@ impl Paths for HostRuntime {
         OpenOptions::new().append(true).open(self, path)
     }
 
-    fn make_to_keep(&self, path: &str) -> io::Result<File> {
-        OpenOptions::new()
-            .read(true)
-            .append(true)
-            .create(true)
-            .open(self, path)
+    fn open_to_keep(&self, path: &str) -> io::Result<File> {
+        OpenOptions::new().read(true).append(true).open(self, path)
     }
 
     fn make_new(&self, path: &str) -> io::Result<File> {

@@ -1,12 +1,13 @@
 //! What is asked of a disk.
 
 ghost use Rattle.std.specs.Prelude.{◌≡◌, ◌++◌, ℕ, List, [], ◌∷◌, true, false, IfOk, OnOk, OnErr, IsTrue, ◌↔◌};
-ghost use Rattle.keeper_files.specs.Deeds.{Deed, Opened, SyncedFolder, Locked, SawOwn, SawName, SawMark, Marked, ReadLog, ReadFences, Unread, Cut, Appended, Synced, IsSameFile};
+ghost use Rattle.keeper_files.specs.Deeds.{Deed, SawThere, Made, Opened, SyncedFolder, Locked, SawOwn, SawName, SawFences, SawMark, Marked, ReadLog, ReadFences, Unread, Cut, Appended, Synced, IsSameFile, inode_of};
 ghost use Rattle.stations.specs.Acts.{Does};
 
 use std::alloc::Global;
 use std::io;
 use std::result::Result;
+use wire::Inode;
 
 /// A file of a keeper.
 #[derive(Clone, Copy, PartialEq, Eq)]
@@ -26,6 +27,8 @@ pub struct Identity {
     pub inode: u64,
     /// How many names it has.
     pub links: u64,
+    /// When it was made, in nanoseconds since 1970; 0 where that is not told.
+    pub born: u64,
 }
 
 impl Identity {
@@ -35,6 +38,16 @@ impl Identity {
     {
         self.device == other.device && self.inode == other.inode
     }
+
+    /// The file as it is known behind a new start of its machine, which may give its device another number.
+    pub fn inode(&self) -> Inode
+        ensures { result ≡ inode_of self.now }
+    {
+        Inode {
+            number: self.inode,
+            born: self.born,
+        }
+    }
 }
 
 /// The disk on which a keeper's files lie, each under its name. One call of the system each, and what is said of it is trusted of that call.
@@ -42,7 +55,17 @@ pub trait Disk {
     // Which deeds may be all that were done with it, in their order: a disk that tells nothing says so of any.
     ghost deeds: { Self → List Deed → Type 0 };
 
-    /// Opens the file of that name, to be read and added to, and makes it where it is not there.
+    /// Whether there is anything of that name, a link also.
+    fn is_there(&mut self, part: Part) -> io::Result<bool>
+        ensures ok { IfOk result (λ is. Does (deeds self.old) (deeds self.new) (SawThere part is ∷ [])) }
+        ensures failed { OnErr result (Does (deeds self.old) (deeds self.new) (Unread ∷ [])) };
+
+    /// Makes the file of that name, which is not there, and opens it.
+    fn make(&mut self, part: Part) -> io::Result<()>
+        ensures ok { OnOk result (Does (deeds self.old) (deeds self.new) (Made part true ∷ [])) }
+        ensures failed { OnErr result (Does (deeds self.old) (deeds self.new) (Made part false ∷ [])) };
+
+    /// Opens the file of that name, which is there, to be read and added to.
     fn open(&mut self, part: Part) -> io::Result<()>
         ensures ok { OnOk result (Does (deeds self.old) (deeds self.new) (Opened part true ∷ [])) }
         ensures failed { OnErr result (Does (deeds self.old) (deeds self.new) (Opened part false ∷ [])) };
@@ -70,6 +93,11 @@ pub trait Disk {
     /// Which file has the log's name. A link is one of its own.
     fn named_identity(&mut self) -> io::Result<Identity>
         ensures ok { IfOk result (λ named. Does (deeds self.old) (deeds self.new) (SawName named ∷ [])) }
+        ensures failed { OnErr result (Does (deeds self.old) (deeds self.new) (Unread ∷ [])) };
+
+    /// Which file has the fences' name. A link is one of its own.
+    fn fences_identity(&mut self) -> io::Result<Identity>
+        ensures ok { IfOk result (λ fences. Does (deeds self.old) (deeds self.new) (SawFences fences ∷ [])) }
         ensures failed { OnErr result (Does (deeds self.old) (deeds self.new) (Unread ∷ [])) };
 
     /// Whether there is the mark of a log that failed.

@@ -13,20 +13,23 @@ use stations::{FilesFault, KeeperFiles};
 use std::alloc::Global;
 use std::io;
 use std::result::Result;
-use wire::{fence_entry, last_fence};
+use wire::{Pair, fence_entry, last_fence};
 
 /// What is known of a keeper's files that are open.
 #[derive(Clone, Copy)]
 pub struct Known {
-    pub(crate) guest: Guest,
-    pub(crate) own: Identity,
+    pub guest: Guest,
+    /// The pair whose keeper's they are.
+    pub pair: Pair,
+    /// Which file the open log is.
+    pub own: Identity,
 }
 
 /// The open files of a keeper.
 #[derive(Drop)]
 pub struct DiskFiles<D: Disk + Drop> {
-    pub(crate) disk: D,
-    pub(crate) known: Known,
+    pub disk: D,
+    pub known: Known,
 }
 
 impl<D: Disk + Drop> DiskFiles<D> {

@@ -4,9 +4,12 @@
 mod disk;
 mod faults;
 mod files;
+mod making;
 mod opening;
+mod owners;
 
 pub use disk::{Disk, Identity, Part};
-pub use faults::OpenFault;
+pub use faults::{MakeFault, OpenFault};
 pub use files::{DiskFiles, Known};
+pub use making::make_files;
 pub use opening::{open_for_hand, open_for_keeper};

@@ -1,29 +1,21 @@
 //! How a keeper's files are opened.
 
-ghost use Rattle.std.specs.Prelude.{◌≡◌, [], ◌∷◌, Ok, true, IfOk, OnOk};
-ghost use Rattle.keeper_files.specs.Deeds.{Opened, SyncedFolder, Locked, IsOfOneName, looking, opening, opening_for_hand, opening_for_keeper};
+ghost use Rattle.std.specs.Prelude.{◌≡◌, ◌++◌, ℕ, List, [], ◌∷◌, true, IfOk, OnOk};
+ghost use Rattle.keeper_files.specs.Deeds.{Opened, SyncedFolder, Locked, IsOfOneName, looking, reading, opening, opening_for_hand, opening_for_keeper};
+ghost use Rattle.keeper_files.specs.Owners.{AreKept};
 ghost use Rattle.keeper_files.specs.declared.disk.Identity.{Identity as identity_of_specs};
 ghost use Rattle.stations.specs.Acts.{Does};
 
 use crate::disk::{Disk, Identity, Part};
-use crate::faults::{OpenFault, fault_of};
+use crate::faults::{OpenFault, opened};
 use crate::files::{DiskFiles, Known};
-use ft_types::Guest;
+use crate::owners::read_owner;
+use ft_types::{Guest, Keeper};
 use stations::FilesFault;
-use std::io;
+use std::alloc::Global;
 use std::result::Result;
 
-/// What came of a call, as the fault of opening this file.
-fn opened<T: Drop>(done: io::Result<T>, file: FilesFault) -> Result<T, OpenFault>
-    ensures { IfOk result (λ it. done ≡ Ok it) }
-{
-    match done {
-        Ok(it) => Ok(it),
-        Err(error) => Err(OpenFault::Files(fault_of(&error, file))),
-    }
-}
-
-/// Opens a file, and makes it where it is not there.
+/// Opens a file that is there.
 fn open<D: Disk>(disk: &mut D, part: Part, file: FilesFault) -> Result<(), OpenFault>
     ensures { OnOk result (Does (D.deeds disk.old) (D.deeds disk.new) (opening part)) }
 {
@@ -66,46 +58,82 @@ fn look<D: Disk>(disk: &mut D) -> Result<Identity, OpenFault>
     Ok(own)
 }
 
+/// Looks at an open log and reads its fences: what is known of them, where they are this keeper's.
+fn look_at_both<D: Disk>(
+    alloc: Global,
+    disk: &mut D,
+    guest: Guest,
+    keeper: Keeper,
+) -> Result<Known, OpenFault>
+    ensures guest { IfOk result (λ known. known.guest ≡ guest) }
+    ensures own { IfOk result (λ known. (named fences : identity_of_specs) × (bytes : List ℕ) × IsOfOneName known.own named ×
+        AreKept guest keeper known.pair known.own fences bytes × Does (D.deeds disk.old) (D.deeds disk.new) (looking known.own named ++ reading fences bytes)) }
+{
+    let own = look(disk)?;
+    let pair = read_owner(alloc, disk, &guest, keeper, &own)?;
+    Ok(Known { guest, pair, own })
+}
+
 /// Opens the files of a keeper that runs: the log, which no other keeper has.
-fn open_log<D: Disk>(disk: &mut D) -> Result<Identity, OpenFault>
-    ensures { IfOk result (λ own. (named : identity_of_specs) × IsOfOneName own named × Does (D.deeds disk.old) (D.deeds disk.new) (opening_for_keeper own named)) }
+fn open_log<D: Disk>(
+    alloc: Global,
+    disk: &mut D,
+    guest: Guest,
+    keeper: Keeper,
+) -> Result<Known, OpenFault>
+    ensures guest { IfOk result (λ known. known.guest ≡ guest) }
+    ensures own { IfOk result (λ known. (named fences : identity_of_specs) × (bytes : List ℕ) × IsOfOneName known.own named ×
+        AreKept guest keeper known.pair known.own fences bytes × Does (D.deeds disk.old) (D.deeds disk.new) (opening_for_keeper known.own named fences bytes)) }
 {
     open(disk, Part::Log, FilesFault::Log)?;
     lock(disk)?;
-    look(disk)
+    look_at_both(alloc, disk, guest, keeper)
 }
 
 /// Opens the files of a log that is handed over: the log, and the fences, for which no other process puts one meanwhile.
-fn open_both<D: Disk>(disk: &mut D) -> Result<Identity, OpenFault>
-    ensures { IfOk result (λ own. (named : identity_of_specs) × IsOfOneName own named × Does (D.deeds disk.old) (D.deeds disk.new) (opening_for_hand own named)) }
+fn open_both<D: Disk>(
+    alloc: Global,
+    disk: &mut D,
+    guest: Guest,
+    keeper: Keeper,
+) -> Result<Known, OpenFault>
+    ensures guest { IfOk result (λ known. known.guest ≡ guest) }
+    ensures own { IfOk result (λ known. (named fences : identity_of_specs) × (bytes : List ℕ) × IsOfOneName known.own named ×
+        AreKept guest keeper known.pair known.own fences bytes × Does (D.deeds disk.old) (D.deeds disk.new) (opening_for_hand known.own named fences bytes)) }
 {
     open(disk, Part::Log, FilesFault::Log)?;
     open_fences(disk)?;
-    look(disk)
+    look_at_both(alloc, disk, guest, keeper)
 }
 
-/// The files of a keeper that runs. No other keeper has its log, which is the only file of its name and did not fail before.
-pub fn open_for_keeper<D: Disk + Drop>(mut disk: D, guest: Guest) -> Result<DiskFiles<D>, OpenFault>
+/// The files of a keeper that runs, which were made for it: its log, which no other keeper has, which is the only file of its name and did not fail before.
+pub fn open_for_keeper<D: Disk + Drop>(
+    alloc: Global,
+    mut disk: D,
+    guest: Guest,
+    keeper: Keeper,
+) -> Result<DiskFiles<D>, OpenFault>
     ensures guest { IfOk result (λ files. files.known.guest ≡ guest) }
-    ensures opened { IfOk result (λ files. (named : identity_of_specs) × IsOfOneName files.known.own named ×
-        Does (D.deeds disk) (D.deeds files.disk) (opening_for_keeper files.known.own named)) }
+    ensures opened { IfOk result (λ files. (named fences : identity_of_specs) × (bytes : List ℕ) × IsOfOneName files.known.own named ×
+        AreKept guest keeper files.known.pair files.known.own fences bytes ×
+        Does (D.deeds disk) (D.deeds files.disk) (opening_for_keeper files.known.own named fences bytes)) }
 {
-    let own = open_log(&mut disk)?;
-    Ok(DiskFiles {
-        disk,
-        known: Known { guest, own },
-    })
+    let known = open_log(alloc, &mut disk, guest, keeper)?;
+    Ok(DiskFiles { disk, known })
 }
 
-/// The files of a keeper whose log is handed over. Whoever else hands it over waits meanwhile.
-pub fn open_for_hand<D: Disk + Drop>(mut disk: D, guest: Guest) -> Result<DiskFiles<D>, OpenFault>
+/// The files of a keeper whose log is handed over, which were made for it. Whoever else hands it over waits meanwhile.
+pub fn open_for_hand<D: Disk + Drop>(
+    alloc: Global,
+    mut disk: D,
+    guest: Guest,
+    keeper: Keeper,
+) -> Result<DiskFiles<D>, OpenFault>
     ensures guest { IfOk result (λ files. files.known.guest ≡ guest) }
-    ensures opened { IfOk result (λ files. (named : identity_of_specs) × IsOfOneName files.known.own named ×
-        Does (D.deeds disk) (D.deeds files.disk) (opening_for_hand files.known.own named)) }
+    ensures opened { IfOk result (λ files. (named fences : identity_of_specs) × (bytes : List ℕ) × IsOfOneName files.known.own named ×
+        AreKept guest keeper files.known.pair files.known.own fences bytes ×
+        Does (D.deeds disk) (D.deeds files.disk) (opening_for_hand files.known.own named fences bytes)) }
 {
-    let own = open_both(&mut disk)?;
-    Ok(DiskFiles {
-        disk,
-        known: Known { guest, own },
-    })
+    let known = open_both(alloc, &mut disk, guest, keeper)?;
+    Ok(DiskFiles { disk, known })
 }

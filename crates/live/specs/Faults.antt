@@ -8,9 +8,11 @@ use Rattle.stations.specs.declared.faults.LogFault.TheVariants.{Files, Frame, Ot
 use Rattle.stations.specs.declared.faults.FenceFault.{FenceFault}
 use Rattle.stations.specs.declared.faults.FenceFault.TheVariants.{Files as FilesOfFence, Fenced}
 use Rattle.keeper_files.specs.declared.faults.OpenFault.{OpenFault}
-use Rattle.keeper_files.specs.declared.faults.OpenFault.TheVariants.{Files as FilesOfOpen, Locked, Link, Failed}
+use Rattle.keeper_files.specs.declared.faults.OpenFault.TheVariants.{Files as FilesOfOpen, Locked, Link, Failed, NoLine, OtherKeeper, OtherLog, OtherFences}
+use Rattle.keeper_files.specs.declared.faults.MakeFault.{MakeFault}
+use Rattle.keeper_files.specs.declared.faults.MakeFault.TheVariants.{Files as FilesOfMake, There}
 use Rattle.ends.specs.declared.faults.Fault.{Fault}
-use Rattle.ends.specs.declared.faults.Fault.TheVariants.{File, Frames as WithFrames, Fenced as WasFenced, Locked as IsLocked, Link as IsLink, Failed as HasFailed, Moved as HasMoved, Memory as NoMemory}
+use Rattle.ends.specs.declared.faults.Fault.TheVariants.{File, Frames as WithFrames, Fenced as WasFenced, Locked as IsLocked, Link as IsLink, Failed as HasFailed, Moved as HasMoved, There as IsThere, NoLine as HasNoLine, OtherKeeper as OfOtherKeeper, OtherLog as IsOtherLog, OtherFences as HasOtherFences, Memory as NoMemory}
 use Rattle.ends.specs.declared.faults.Frames.TheVariants.{Log as InLog}
 use Rattle.ends.specs.declared.faults.FramesFault.TheVariants.{Frame as OfFrame, Guest as OfGuest, Clash as OfClash}
 use Rattle.ends.specs.declared.faults.NamedFile.TheVariants.{Log as TheLog, Fences as TheFences}
@@ -36,3 +38,11 @@ told_of_opening (FilesOfOpen fault) = told_of_files fault
 told_of_opening Locked = IsLocked
 told_of_opening Link = IsLink
 told_of_opening Failed = HasFailed
+told_of_opening NoLine = HasNoLine
+told_of_opening OtherKeeper = OfOtherKeeper
+told_of_opening OtherLog = IsOtherLog
+told_of_opening OtherFences = HasOtherFences
+
+abbrev pub told_of_making : MakeFault → Fault
+told_of_making (FilesOfMake fault) = told_of_files fault
+told_of_making There = IsThere

@@ -1,10 +1,10 @@
 //! What can go wrong with a keeper's files, as it is told.
 
 ghost use Rattle.std.specs.Prelude.{◌≡◌};
-ghost use Rattle.live.specs.Faults.{told_of_files, told_of_log, told_of_fence, told_of_opening};
+ghost use Rattle.live.specs.Faults.{told_of_files, told_of_log, told_of_fence, told_of_making, told_of_opening};
 
 use ends::{Fault, Frames, FramesFault, NamedFile};
-use keeper_files::OpenFault;
+use keeper_files::{MakeFault, OpenFault};
 use stations::{FenceFault, FilesFault, LogFault};
 
 /// As it is told that a file could not be read or written, or that memory is wanting.
@@ -51,5 +51,19 @@ pub fn open_fault(fault: OpenFault) -> Fault
         OpenFault::Locked => Fault::Locked,
         OpenFault::Link => Fault::Link,
         OpenFault::Failed => Fault::Failed,
+        OpenFault::NoLine => Fault::NoLine,
+        OpenFault::OtherKeeper => Fault::OtherKeeper,
+        OpenFault::OtherLog => Fault::OtherLog,
+        OpenFault::OtherFences => Fault::OtherFences,
+    }
+}
+
+/// As it is told why a keeper's files are not made.
+pub fn make_fault(fault: MakeFault) -> Fault
+    ensures { result ≡ told_of_making fault }
+{
+    match fault {
+        MakeFault::Files(fault) => files_fault(fault),
+        MakeFault::There => Fault::There,
     }
 }

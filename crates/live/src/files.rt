@@ -9,6 +9,7 @@ use std::fs::{File, Metadata, TryLockError};
 use std::io;
 use std::io::{Read, Seek, SeekFrom, Write};
 use std::os::unix::fs::MetadataExt;
+use std::time::UNIX_EPOCH;
 
 /// The name of a file beside a log.
 fn beside(alloc: Global, log: &str, ending: &str) -> Result<String, AllocError> {
@@ -34,11 +35,23 @@ fn real_name<R: Paths + AllocGlobal>(rt: &R, log: &str) -> Result<String, Fault>
     }
 }
 
+/// When a file was made, in nanoseconds since 1970; 0 where its file system does not tell.
+fn born_of(file: &Metadata) -> u64 {
+    let Ok(time) = file.created() else {
+        return 0;
+    };
+    match time.duration_since(UNIX_EPOCH) {
+        Ok(passed) => u64::try_from(passed.as_nanos()).unwrap_or(0),
+        Err(_) => 0,
+    }
+}
+
 fn identity_of(file: &Metadata) -> Identity {
     Identity {
         device: file.dev(),
         inode: file.ino(),
         links: file.nlink(),
+        born: born_of(file),
     }
 }
 
@@ -70,6 +83,15 @@ fn stamp_of(file: &Metadata) -> Option<Stamp> {
         size: file.size(),
         changed: (file.ctime(), file.ctime_nsec()),
     })
+}
+
+/// Whether there is anything of a name, a link also.
+fn is_there<R: Paths + AllocGlobal>(rt: &R, name: &str) -> io::Result<bool> {
+    match rt.look_at(name) {
+        Ok(_) => Ok(true),
+        Err(error) if error.kind() == io::ErrorKind::NotFound => Ok(false),
+        Err(error) => Err(error),
+    }
 }
 
 /// The stamp of the file of a name. None where it is not there.
@@ -118,9 +140,17 @@ pub struct Places {
 }
 
 impl Places {
-    /// The names beside a log, none of which is open.
+    /// The names beside a log that is there, none of which is open. Where it is a link they are those of the file to which it leads.
     pub fn of<R: Paths + AllocGlobal>(rt: &R, log: &str) -> Result<Places, Fault> {
-        let log = real_name(rt, log)?;
+        Ok(Places::beside(rt, real_name(rt, log)?)?)
+    }
+
+    /// The names beside a log that is to be made.
+    pub fn new<R: Paths + AllocGlobal>(rt: &R, log: &str) -> Result<Places, AllocError> {
+        Places::beside(rt, String::from_str(rt.alloc(), log)?)
+    }
+
+    fn beside<R: Paths + AllocGlobal>(rt: &R, log: String) -> Result<Places, AllocError> {
         let fences = beside(rt.alloc(), log.as_str(), ".fences")?;
         let mark = beside(rt.alloc(), log.as_str(), ".failed")?;
         Ok(Places {
@@ -169,8 +199,18 @@ impl<R: Paths + AllocGlobal + Copy> HostDisk<R> {
 impl<R: Paths + AllocGlobal + Copy> Disk for HostDisk<R> {
     ghost deeds = { λ _ _. ⊤ };
 
+    fn is_there(&mut self, part: Part) -> io::Result<bool> {
+        is_there(&self.rt, self.places.name(part))
+    }
+
+    fn make(&mut self, part: Part) -> io::Result<()> {
+        let file = self.rt.make_new(self.places.name(part))?;
+        *self.places.file(part) = Some(file);
+        Ok(())
+    }
+
     fn open(&mut self, part: Part) -> io::Result<()> {
-        let file = self.rt.make_to_keep(self.places.name(part))?;
+        let file = self.rt.open_to_keep(self.places.name(part))?;
         *self.places.file(part) = Some(file);
         Ok(())
     }
@@ -199,12 +239,12 @@ impl<R: Paths + AllocGlobal + Copy> Disk for HostDisk<R> {
         Ok(identity_of(&self.rt.look_at(self.places.log.as_str())?))
     }
 
+    fn fences_identity(&mut self) -> io::Result<Identity> {
+        Ok(identity_of(&self.rt.look_at(self.places.fences.as_str())?))
+    }
+
     fn is_marked(&mut self) -> io::Result<bool> {
-        match self.rt.look_at(self.places.mark.as_str()) {
-            Ok(_) => Ok(true),
-            Err(error) if error.kind() == io::ErrorKind::NotFound => Ok(false),
-            Err(error) => Err(error),
-        }
+        is_there(&self.rt, self.places.mark.as_str())
     }
 
     fn mark(&mut self) -> io::Result<()> {

@@ -161,8 +161,9 @@ impl Keeping {
 }
 
 /// The files of a keeper that runs.
-fn open<H: Host>(rt: &H, guest: Guest, log: &str) -> Result<HostFiles<H>, Fault> {
-    match open_for_keeper(HostDisk::new(rt, Places::of(rt, log)?), guest) {
+fn open<H: Host>(rt: &H, guest: Guest, words: &KeeperWords<'_>) -> Result<HostFiles<H>, Fault> {
+    let disk = HostDisk::new(rt, Places::of(rt, words.log)?);
+    match open_for_keeper(rt.alloc(), disk, guest, words.keeper) {
         Ok(files) => Ok(files),
         Err(fault) => Err(open_fault(fault)),
     }
@@ -188,7 +189,7 @@ pub fn keep<H: Host>(rt: &H, words: &KeeperWords<'_>) -> Result<u8, Fault>
     ensures { IfOk result (λ status. status ≤ 1) }
 {
     let guest = read_image_file(rt, words.image)?.guest();
-    let mut files = open(rt, guest, words.log)?;
+    let mut files = open(rt, guest, words)?;
     let station = begin(rt, guest, words.keeper, &mut files)?;
     let (to, events) = row(rt.alloc(), ROOM)?;
     let outputs = posts(rt.alloc(), guest, words.keeper, words.outputs.len())?;

@@ -1,4 +1,4 @@
-//! The program of a pair over several processes: a keeper, whoever hands its log over, a primary, and a client. All that passes between them goes over
+//! The program of a pair over several processes: a keeper, whoever makes its log and whoever hands it over, a primary, and a client. All that passes between them goes over
 //! FIFOs or files.
 #![tactic(auto)]
 
@@ -9,6 +9,7 @@ mod files;
 mod handing;
 mod keeping;
 mod listening;
+mod making;
 mod names;
 mod posting;
 
@@ -16,11 +17,12 @@ ghost use Rattle.std.specs.Prelude.{◌≤◌};
 
 use crate::handing::hand;
 use crate::keeping::keep;
-use crate::names::{name_in_hand, name_in_keeper};
+use crate::making::make;
+use crate::names::{name_in_hand, name_in_keeper, name_in_make};
 use ends::{Fault, Host, refuse, tell};
 use live_client::ask;
 use live_primary::lead;
-use live_words::{HandWords, KeeperWords, Task, WordsFault, read_task};
+use live_words::{HandWords, KeeperWords, MakeWords, Task, WordsFault, read_task};
 use std::process::ExitCode;
 use std::{env, io};
 
@@ -33,6 +35,18 @@ fn arguments(rt: &HostRuntime) -> io::Result<Vec<String>> {
         words.push(word)?;
     }
     Ok(words)
+}
+
+fn make_and_tell<H: Host>(rt: &H, words: &MakeWords<'_>) -> u8
+    ensures { result ≤ 1 }
+{
+    match make(rt, words) {
+        Ok(status) => status,
+        Err(fault) => {
+            tell(rt, &fault, name_in_make(words, &fault));
+            1
+        }
+    }
 }
 
 fn keep_and_tell<H: Host>(rt: &H, words: &KeeperWords<'_>) -> u8
@@ -64,6 +78,7 @@ fn run<H: Host>(rt: &H, task: &Task<'_>) -> u8
     ensures { result ≤ 2 }
 {
     match task {
+        Task::Make(words) => make_and_tell(rt, words),
         Task::Keeper(words) => keep_and_tell(rt, words),
         Task::Hand(words) => hand_and_tell(rt, words),
         Task::Primary(words) => lead(rt, words),

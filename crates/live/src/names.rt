@@ -1,7 +1,7 @@
 //! The names of files.
 
 use ends::{Fault, NamedFile, name_at};
-use live_words::{HandWords, KeeperWords};
+use live_words::{HandWords, KeeperWords, MakeWords};
 
 /// The name of the file that a keeper's fault names, which for fences is the log's.
 pub fn name_in_keeper<'a>(words: &KeeperWords<'a>, fault: &Fault) -> &'a str {
@@ -16,6 +16,15 @@ pub fn name_in_keeper<'a>(words: &KeeperWords<'a>, fault: &Fault) -> &'a str {
 
 /// The name of the file that a fault names where a log is handed over, which for fences is the log's.
 pub fn name_in_hand<'a>(words: &HandWords<'a>, fault: &Fault) -> &'a str {
+    match fault {
+        Fault::File(NamedFile::Image) => words.image,
+        Fault::File(NamedFile::Log | NamedFile::Fences) => words.log,
+        _ => "",
+    }
+}
+
+/// The name of the file that a fault names where a log is made, which for fences is the log's.
+pub fn name_in_make<'a>(words: &MakeWords<'a>, fault: &Fault) -> &'a str {
     match fault {
         Fault::File(NamedFile::Image) => words.image,
         Fault::File(NamedFile::Log | NamedFile::Fences) => words.log,

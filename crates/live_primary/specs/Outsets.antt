@@ -14,6 +14,8 @@ use Rattle.primary.specs.declared.granted.Primary.{Primary}
 use Rattle.fenced_live.specs.declared.given.Given.{Given}
 use Rattle.leading.specs.Beginning.{GoesLiveGiven}
 use Rattle.leading.specs.declared.handed.HandedLog.{HandedLog}
+use Rattle.live_primary.specs.Pairs.{AreOfPair}
+use Rattle.wire.specs.declared.pairs.Pair.{Pair}
 
 -- the stores of these logs, each of its keeper and given to its term
 pub record AreGivenOf (logs : List HandedLog) (given : List Given) : Type 0 where
@@ -30,10 +32,13 @@ pub record AreSentFirst (guest : GuestParts) (logs : List HandedLog) (opening : 
   pub written : IsStoreText store text
   pub sent : bytes ≡ text ++ spelling opening
 
--- the primary and its gate are live from the very logs whose frames are sent first, and then its opening
+-- the primary and its gate are live from the very logs whose frames are sent first, and then its opening; these are of one pair, whose quorum this is
 pub record SetsOut (quorum : Quorum) (term : ℕ) (p : Primary) (g : TermGateView) (bytes : List ℕ) : Type 0 where
   pub image : ImageContents
   pub logs : List HandedLog
+  pub pair : Pair
+  pub quorum_is : pair.quorum ≡ quorum
+  pub of_pair : AreOfPair (guest_of image) pair logs
   pub given : List Given
   pub are : AreGivenOf logs given
   pub live : GoesLiveGiven image quorum term given p g

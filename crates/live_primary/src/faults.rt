@@ -3,8 +3,8 @@
 ghost use Rattle.std.specs.Prelude.{◌≡◌};
 ghost use Rattle.live_primary.specs.Faults.{told_of_handed, told_of_image, told_of_lead, told_of_store};
 ghost use Rattle.ends.specs.declared.faults.Fault.TheVariants.{Frames as WithFrames};
-ghost use Rattle.ends.specs.declared.faults.Frames.TheVariants.{AllHanded};
-ghost use Rattle.ends.specs.declared.faults.FramesFault.TheVariants.{Clash};
+ghost use Rattle.ends.specs.declared.faults.Frames.TheVariants.{AllHanded, Handed};
+ghost use Rattle.ends.specs.declared.faults.FramesFault.TheVariants.{Clash, Pair as OfPair, Quorum as OfQuorum};
 
 use ends::{Fault, Frames, FramesFault};
 use fenced_live::GivenFault;
@@ -38,6 +38,20 @@ pub(crate) fn handed_fault(number: usize, fault: HandedFault) -> Fault
         HandedFault::Memory => return Fault::Memory,
     };
     Fault::Frames(Frames::Handed(number), fault)
+}
+
+/// What was handed over with this number names no pair, or another than those before.
+pub(crate) fn other_pair(number: usize) -> Fault
+    ensures { result ≡ WithFrames (Handed number) OfPair }
+{
+    Fault::Frames(Frames::Handed(number), FramesFault::Pair)
+}
+
+/// What was handed over with this number names another quorum.
+pub(crate) fn other_quorum(number: usize) -> Fault
+    ensures { result ≡ WithFrames (Handed number) OfQuorum }
+{
+    Fault::Frames(Frames::Handed(number), FramesFault::Quorum)
 }
 
 /// Two that were handed over don't go together.

@@ -8,6 +8,7 @@ mod names;
 mod office;
 mod outset;
 mod pace;
+mod pairs;
 mod reading;
 
 pub use duty::lead;

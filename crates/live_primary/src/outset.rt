@@ -9,13 +9,17 @@ ghost use Rattle.fragment_codec.specs.declared.frame.Frame.TheVariants.{Opening 
 ghost use Rattle.go_live.specs.Joined.{AreJoined};
 ghost use Rattle.fenced_live.specs.declared.given.Given.{Given as given_of_keeper};
 ghost use Rattle.leading.specs.Beginning.{GoesLiveGiven};
+ghost use Rattle.leading.specs.Handed.{IsWhole};
 ghost use Rattle.live_primary.specs.Outsets.{AreGivenOf, AreSentFirst, SetsOut};
+ghost use Rattle.live_primary.specs.Pairs.{AreOfPair};
+ghost use Rattle.wire.specs.declared.pairs.Pair.{Pair as pair_of_wire};
 
 use crate::faults::{clash, handed_fault, image_fault, lead_fault, store_fault};
+use crate::pairs::read_own_pair;
 use ends::{Fault, Host, NamedFile, Paths, RemovedFile, file_fault, read_file, remove_file};
 use fenced_live::Given;
 use fragment_codec::Frame;
-use ft_types::{Guest, Memory, MemorySink};
+use ft_types::{Guest, Memory, MemorySink, Quorum};
 use guest_image::{Image, read_image};
 use leading::{HandedLog, Leader, read_handed_log};
 use live_words::PrimaryWords;
@@ -51,31 +55,40 @@ pub fn read_image_file<R: Paths + AllocGlobal>(rt: &R, name: &str) -> Result<Ima
     }
 }
 
-/// What these bytes hand over.
-fn log_in(alloc: Global, guest: Guest, number: usize, bytes: &[u8]) -> Result<HandedLog, Fault> {
+/// What these bytes hand over, behind the line of their pair.
+fn log_in(alloc: Global, guest: Guest, number: usize, bytes: &[u8]) -> Result<HandedLog, Fault>
+    ensures { IfOk result (λ log. IsWhole guest bytes.now log) }
+{
     match read_handed_log(alloc, guest, bytes) {
         Ok(log) => Ok(log),
         Err(fault) => Err(handed_fault(number, fault)),
     }
 }
 
-/// What was handed over, with this number.
-fn handed_log<H: Host>(
-    rt: &H,
-    guest: Guest,
-    number: usize,
-    name: &str,
-) -> Result<HandedLog, Fault> {
+/// The bytes that were handed over, with this number.
+fn handed_bytes<H: Host>(rt: &H, number: usize, name: &str) -> Result<Vec<u8>, Fault> {
     match read_file(rt, name) {
-        Ok(bytes) => log_in(rt.alloc(), guest, number, &bytes),
+        Ok(bytes) => Ok(bytes),
         Err(error) => Err(file_fault(&error, NamedFile::Handed(number))),
     }
 }
 
-fn handed_logs<H: Host>(rt: &H, guest: Guest, names: &[&str]) -> Result<Vec<HandedLog>, Fault> {
+/// The logs that were handed over, all by keepers of one pair, whose quorum this is.
+fn handed_logs<H: Host>(
+    rt: &H,
+    guest: Guest,
+    quorum: Quorum,
+    names: &[&str],
+) -> Result<Vec<HandedLog>, Fault>
+    ensures { IfOk result (λ logs. (pair : pair_of_wire) × (pair.quorum ≡ quorum) × AreOfPair guest pair logs.items) }
+{
     let mut logs = Vec::new(rt.alloc());
+    let mut pair = None;
     for number in 0..names.len() {
-        logs.push(handed_log(rt, guest, number, names[number])?)?;
+        let bytes = handed_bytes(rt, number, names[number])?;
+        let (own, rest) = read_own_pair(&guest, quorum, pair, number, &bytes)?;
+        logs.push(log_in(rt.alloc(), guest, number, rest)?)?;
+        pair = Some(own);
     }
     Ok(logs)
 }
@@ -192,7 +205,7 @@ pub(crate) fn set_out<'a, H: Host>(rt: &H, words: &PrimaryWords<'a>) -> Result<O
     let alloc = rt.alloc();
     let image = read_image_file(rt, words.image)?;
     let guest = image.guest();
-    let logs = handed_logs(rt, guest, &words.handed)?;
+    let logs = handed_logs(rt, guest, words.quorum, &words.handed)?;
     let (leader, opening) = go_live(alloc, &image, words, &logs)?;
     let frames = first_frames(alloc, guest, &logs, opening)?;
     let removed = remove_all(rt, &words.handed)?;

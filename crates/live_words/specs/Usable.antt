@@ -1,10 +1,11 @@
 -- Words that ask for what can be done.
 use Rattle.std.specs.Prelude.{◌<◌}
 use Rattle.live_words.specs.declared.tasks.Task.{Task}
-use Rattle.live_words.specs.declared.tasks.Task.TheVariants.{Keeper, Hand, Primary, Client}
+use Rattle.live_words.specs.declared.tasks.Task.TheVariants.{Make, Keeper, Hand, Primary, Client}
 
--- the term is one that is granted; some word may be without an answer, for some time
+-- the keeper is one of the pair's; the term is one that is granted; some word may be without an answer, for some time
 abbrev pub IsUsable : Task → Type 0
+IsUsable (Make words) = words.keeper < words.pair.quorum.keepers
 IsUsable (Keeper words) = Unit {0}
 IsUsable (Hand words) = 0 < words.term
 IsUsable (Primary words) = 0 < words.term

@@ -3,7 +3,8 @@ use Rattle.std.specs.Prelude.{◌≡◌, ◌++◌, ◌⊎◌, ℕ, List, [], ◌
 use Rattle.ft_types.specs.Text.{IsNumber}
 use Rattle.word_forms.specs.declared.matching.Words.{Words}
 use Rattle.live_words.specs.declared.tasks.Task.{Task}
-use Rattle.live_words.specs.declared.tasks.Task.TheVariants.{Keeper, Hand, Primary, Client}
+use Rattle.live_words.specs.declared.tasks.Task.TheVariants.{Make, Keeper, Hand, Primary, Client}
+use Rattle.wire.specs.Pairs.{IsLongWord}
 
 -- the rows end in these
 abbrev pub EndIn : {Row : Type 0} → List Row → List Row → Type 0
@@ -12,6 +13,14 @@ EndIn {Row} rows last = (front : List Row) × (rows ≡ front ++ last)
 -- the word at this place is the number
 abbrev pub IsNumberAt : Words → ℕ → ℕ → Type 0
 IsNumberAt words place n = IfSome (slice_get words.words.items place) (λ word. IsNumber word.now n)
+
+-- IMAGE K KEEPERS NEED PAIR LOG
+abbrev pub Makes : Words → Task → Type 0
+Makes words (Make w) =
+    (slice_get words.words.items 0 ≡ Some w.image) × IsNumberAt words 1 w.keeper × IsNumberAt words 2 w.pair.quorum.keepers ×
+    IsNumberAt words 3 w.pair.quorum.need × IfSome (slice_get words.words.items 4) (λ word. IsLongWord word.now w.pair.name) ×
+    (slice_get words.words.items 5 ≡ Some w.log)
+Makes words other = ⊥
 
 -- IMAGE K LOG from FRAMES.. to ACKS..
 abbrev pub Keeps : Words → Task → Type 0
@@ -44,5 +53,5 @@ Asks words other = ⊥
 -- the task of these words is that of their name
 abbrev pub AsksFor : Words → Task → Type 0
 AsksFor words task =
-    ((words.name.now ≡ codes "keeper") × Keeps words task) ⊎ ((words.name.now ≡ codes "hand") × Hands words task) ⊎
+    ((words.name.now ≡ codes "make") × Makes words task) ⊎ ((words.name.now ≡ codes "keeper") × Keeps words task) ⊎ ((words.name.now ≡ codes "hand") × Hands words task) ⊎
     ((words.name.now ≡ codes "primary") × Leads words task) ⊎ ((words.name.now ≡ codes "client") × Asks words task)

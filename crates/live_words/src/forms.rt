@@ -2,10 +2,16 @@
 
 use word_forms::Form;
 
-/// `keeper IMAGE K LOG from FRAMES.. to ACKS..`, `hand IMAGE K LOG T`,
+/// `make IMAGE K KEEPERS NEED PAIR LOG`, `keeper IMAGE K LOG from FRAMES.. to ACKS..`, `hand IMAGE K LOG T`,
 /// `primary IMAGE T KEEPERS NEED in REQUESTS.. out ANSWERS.. to FRAMES.. from ACKS.. with HANDED..`,
 /// `client FILE WINDOW MILLIS to REQUESTS.. from ANSWERS..`
-pub(crate) static FORMS: [Form; 4] = [
+pub(crate) static FORMS: [Form; 5] = [
+    Form {
+        name: "make",
+        words: &["image", "keeper", "keepers", "need", "pair", "log"],
+        has_paths: false,
+        behind: &[],
+    },
     Form {
         name: "keeper",
         words: &["image", "keeper", "log"],

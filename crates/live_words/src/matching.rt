@@ -3,13 +3,15 @@
 ghost use Rattle.std.specs.Prelude.{◌≡◌, ◌<◌, ◌++◌, ◌∷◌, [], IfOk};
 ghost use Rattle.ft_types.specs.Text.{IsNumber};
 ghost use Rattle.live_words.specs.Usable.{IsUsable};
-ghost use Rattle.live_words.specs.Words.{AsksFor, Asks, Hands, Keeps, Leads};
+ghost use Rattle.live_words.specs.Words.{AsksFor, Asks, Hands, Keeps, Leads, Makes};
+ghost use Rattle.wire.specs.Pairs.{IsLongWord};
 
 use crate::forms::FORMS;
-use crate::tasks::{ClientWords, HandWords, KeeperWords, PrimaryWords, Task};
+use crate::tasks::{ClientWords, HandWords, KeeperWords, MakeWords, PrimaryWords, Task};
 use ft_types::{KEEPER_LIMIT, Keeper, Quorum, Term, read_number};
 use std::alloc::Global;
 use std::result::Result;
+use wire::{Pair, read_long_word};
 use word_forms::{Words, WordsFault, read_form};
 
 /// The last of these rows, which is taken away.
@@ -70,6 +72,52 @@ fn quorum(keepers: &str, need: &str) -> Result<Quorum, WordsFault>
         Some(quorum) => Ok(quorum),
         None => Err(WordsFault::Usage),
     }
+}
+
+/// The number of a pair, of sixteen digits.
+fn long_word(word: &str) -> Result<u64, WordsFault>
+    ensures { IfOk result (λ w. IsLongWord word.now w) }
+{
+    match read_long_word(word.as_bytes()) {
+        Some(number) => Ok(number),
+        None => Err(WordsFault::Usage),
+    }
+}
+
+fn pair(keepers: &str, need: &str, name: &str) -> Result<Pair, WordsFault>
+    ensures keepers { IfOk result (λ p. IsNumber keepers.now p.quorum.keepers) }
+    ensures need { IfOk result (λ p. IsNumber need.now p.quorum.need) }
+    ensures name { IfOk result (λ p. IsLongWord name.now p.name) }
+{
+    Ok(Pair {
+        quorum: quorum(keepers, need)?,
+        name: long_word(name)?,
+    })
+}
+
+fn making_of<'a>(words: Words<'a>) -> Result<Task<'a>, WordsFault>
+    ensures usable { IfOk result IsUsable }
+    ensures which { IfOk result (λ task. Makes words.entry task) }
+{
+    let Words {
+        name: _,
+        words,
+        rows: _,
+    } = words;
+    let [image, number, keepers, need, name, log] = *words.as_slice() else {
+        return Err(WordsFault::Usage);
+    };
+    let keeper = keeper(number)?;
+    let pair = pair(keepers, need, name)?;
+    if keeper.number() >= pair.quorum.keepers() {
+        return Err(WordsFault::Usage);
+    }
+    Ok(Task::Make(MakeWords {
+        image,
+        keeper,
+        pair,
+        log,
+    }))
 }
 
 fn keeping_of<'a>(words: Words<'a>) -> Result<Task<'a>, WordsFault>
@@ -178,6 +226,7 @@ fn task_of<'a>(words: Words<'a>) -> Result<Task<'a>, WordsFault>
     ensures which { IfOk result (λ task. AsksFor words.entry task) }
 {
     match words.name {
+        "make" => making_of(words),
         "keeper" => keeping_of(words),
         "hand" => handing_of(words),
         "primary" => leading_of(words),

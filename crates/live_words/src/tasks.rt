@@ -1,6 +1,17 @@
 //! What there is to do.
 
 use ft_types::{Keeper, Quorum, Term};
+use wire::Pair;
+
+/// `make IMAGE K KEEPERS NEED PAIR LOG`: the log of a keeper of the pair is made.
+#[derive(Drop)]
+pub struct MakeWords<'a> {
+    pub image: &'a str,
+    /// The keeper's number, below that of the pair's keepers.
+    pub keeper: Keeper,
+    pub pair: Pair,
+    pub log: &'a str,
+}
 
 /// `keeper IMAGE K LOG from FRAMES.. to ACKS..`: frames are taken from inputs, and acknowledged on outputs.
 #[derive(Drop)]
@@ -54,6 +65,7 @@ pub struct ClientWords<'a> {
 /// What is to be done.
 #[derive(Drop)]
 pub enum Task<'a> {
+    Make(MakeWords<'a>),
     Keeper(KeeperWords<'a>),
     Hand(HandWords<'a>),
     Primary(PrimaryWords<'a>),

@@ -5,9 +5,10 @@ use crate::tables::{all_right, number, row};
 use ft_types::{COUNT_LIMIT, Counts, Guest, Hart, Keeper, Memory, Output};
 use std::alloc::Global;
 use wire::{
-    Acknowledgement, Answer, Handed, Line, LineFeed, Request, acknowledgement_line, again_line,
-    answer_line, fence_entry, fence_line, handed_line, last_fence, read_acknowledgement,
-    read_again, read_answer, read_fence, read_handed, read_request, request_line,
+    Acknowledgement, Answer, Handed, Keeps, Line, LineFeed, Request, acknowledgement_line,
+    again_line, answer_line, fence_entry, fence_line, handed_line, keeps_line, last_fence,
+    pair_line, read_acknowledgement, read_again, read_answer, read_fence, read_handed, read_keeps,
+    read_pair, read_request, request_line,
 };
 
 /// SHA-256 of the image file of the lines `harts 2` and `pages 1`.
@@ -63,6 +64,18 @@ fn hands_over(guest: &Guest, text: &[u8]) -> Option<bool> {
     Some(is_line(&handed_line(guest, &handed), text))
 }
 
+/// The same of a pair.
+fn names_a_pair(guest: &Guest, text: &[u8]) -> Option<bool> {
+    let pair = read_pair(guest, text)?;
+    Some(is_line(&pair_line(guest, &pair), text))
+}
+
+/// The same of whose files a keeper's are.
+fn keeps(guest: &Guest, text: &[u8]) -> Option<bool> {
+    let keeps = read_keeps(guest, text)?;
+    Some(is_line(&keeps_line(guest, &keeps), text))
+}
+
 /// The same of a request to harts 0 and 1.
 fn asks(text: &[u8]) -> Option<bool> {
     let request = read_request(2, text)?;
@@ -82,17 +95,21 @@ fn is_called(guest: &Guest, text: &[u8], name: &str) -> bool {
         begins_anew(guest, text),
         fences(guest, text),
         hands_over(guest, text),
+        names_a_pair(guest, text),
+        keeps(guest, text),
         asks(text),
         answers(text),
     ];
     let wanted = match name {
-        "ack" => [Some(true), None, None, None, None, None],
-        "again" => [None, Some(true), None, None, None, None],
-        "fence" => [None, None, Some(true), None, None, None],
-        "handed" => [None, None, None, Some(true), None, None],
-        "request" => [None, None, None, None, Some(true), None],
-        "answer" => [None, None, None, None, None, Some(true)],
-        _ => [None; 6],
+        "ack" => [Some(true), None, None, None, None, None, None, None],
+        "again" => [None, Some(true), None, None, None, None, None, None],
+        "fence" => [None, None, Some(true), None, None, None, None, None],
+        "handed" => [None, None, None, Some(true), None, None, None, None],
+        "pair" => [None, None, None, None, Some(true), None, None, None],
+        "keeps" => [None, None, None, None, None, Some(true), None, None],
+        "request" => [None, None, None, None, None, None, Some(true), None],
+        "answer" => [None, None, None, None, None, None, None, Some(true)],
+        _ => [None; 8],
     };
     said == wanted
 }
@@ -108,6 +125,10 @@ fence 1 0b1e4405|fence
 fence 10 ab65f06a|fence
 handed 3 1 0 eec782f8|handed
 handed 2 4 281474976710655 b6ed3a3e|handed
+pair 1 1 0000000000000000 4f7dedf1|pair
+pair 5 3 ffffffffffffffff e5b2b311|pair
+keeps 0 1 1 0000000000000000 0000000000000000 0000000000000000 0000000000000000 0000000000000000 2ff65b58|keeps
+keeps 4 5 2 0123456789abcdef ffffffffffffffff 18ed0b41d2c36cd8 0000000000a74004 18ed0b41d2c36cd9 36a9e695|keeps
 ack 1 0 0 0 56fb682e|nothing
 ack 1 0 0 1 94a4c146|nothing
 ack 1 0 0 0 94A4C146|nothing
@@ -130,6 +151,20 @@ ack  1 0 0 0 905eeebe|nothing
 ack 01 0 0 0 2356eb74|nothing
 fence 1  b4fc57e1|nothing
 again bf979c1e|nothing
+pair 3 0 0000000000000000 cff0a0ca|nothing
+pair 2 3 0000000000000000 829d510c|nothing
+pair 6 3 0000000000000000 c754621d|nothing
+pair 3 2 000000000000000 112d05e0|nothing
+pair 3 2 00000000000000000 414f7ca4|nothing
+pair 3 2 FFFFFFFFFFFFFFFF 30859c6b|nothing
+pair 3 2 0000000000000000 0 44ecd8ef|nothing
+pair 3 2 5f71649e|nothing
+pair 03 2 0000000000000000 81784d18|nothing
+keeps 1 1 1 0000000000000000 0000000000000000 0000000000000000 0000000000000000 0000000000000000 852c6899|nothing
+keeps 0 1 1 0000000000000000 0000000000000000 0000000000000000 0000000000000000 d6b0303c|nothing
+keeps 0 1 1 0000000000000000 0000000000000000 0000000000000000 0000000000000000 0000000000000000 0000000000000000 c85ab493|nothing
+keeps 0 1 1 0000000000000000 0000000000000000 0000000000000000 0000000000000000 12 50fc1c49|nothing
+pair 1 1 0000000000000000|nothing
 0 timer|request
 1 word 0000002a|request
 1 word deadbeef 0|request
@@ -189,6 +224,27 @@ fn handed(guest: &Guest, text: &[u8]) -> Option<(u32, u8, u64)> {
     Some((term, keeper.number(), length))
 }
 
+/// A line that says whose files they are.
+const OWNER: &[u8] =
+    b"keeps 4 5 2 0123456789abcdef ffffffffffffffff 18ed0b41d2c36cd8 0000000000a74004 18ed0b41d2c36cd9 36a9e695";
+
+/// The keeper, how many there are, how many of them must hold an output, and the pair.
+fn keeper_of(guest: &Guest, text: &[u8]) -> Option<(u8, u8, u8, u64)> {
+    let Keeps { keeper, pair, .. } = read_keeps(guest, text)?;
+    Some((
+        keeper.number(),
+        pair.quorum.keepers(),
+        pair.quorum.need(),
+        pair.name,
+    ))
+}
+
+/// The numbers of a log and its fences, each with when it was made.
+fn files_of(guest: &Guest, text: &[u8]) -> Option<[u64; 4]> {
+    let Keeps { log, fences, .. } = read_keeps(guest, text)?;
+    Some([log.number, log.born, fences.number, fences.born])
+}
+
 /// Whether the values of lines under a seal are read, and not for a guest of fewer harts.
 fn sealed_values(guest: &Guest, fewer: &Guest) -> bool {
     let text = b"ack 4294967295 4 281474976710655 7 09329406".as_slice();
@@ -198,6 +254,14 @@ fn sealed_values(guest: &Guest, fewer: &Guest) -> bool {
         && acknowledged(fewer, text).is_none()
         && handed(guest, handed_text) == Some((2, 4, 281_474_976_710_655))
         && read_fence(guest, b"fence 10 ab65f06a") == Some(10)
+        && keeper_of(guest, OWNER) == Some((4, 5, 2, 0x0123_4567_89ab_cdef))
+        && files_of(guest, OWNER)
+            == Some([
+                u64::MAX,
+                0x18ed_0b41_d2c3_6cd8,
+                0xa7_4004,
+                0x18ed_0b41_d2c3_6cd9,
+            ])
 }
 
 fn is_request(text: &[u8], request: Request) -> bool {
@@ -256,6 +320,8 @@ fn is_longest(harts: u8, length: usize) -> bool {
 /// Files of fences, each line feed a semicolon, and the last fence of each.
 static FENCES: &str = "\
 |0
+keeps 4 5 2 0123456789abcdef ffffffffffffffff 18ed0b41d2c36cd8 0000000000a74004 18ed0b41d2c36cd9 36a9e695;|0
+keeps 4 5 2 0123456789abcdef ffffffffffffffff 18ed0b41d2c36cd8 0000000000a74004 18ed0b41d2c36cd9 36a9e695;;fence 2 5b2ab55a;|2
 fence 2 5b2ab55a;|2
 ;fence 2 5b2ab55a;;fence 10 ab65f06a;|10
 ;fence 10 ab65f06a;;fence 2 5b2ab55a;|10

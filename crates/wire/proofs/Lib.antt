@@ -7,3 +7,4 @@ pub mod LastFences
 pub mod Feeds
 pub mod RequestFields
 pub mod AnswerFields
+pub mod PairFields

@@ -67,7 +67,7 @@ name_plain name e = above_plain name (name_above name e)
 
 -- ---- texts
 
-none-append : (c : ℕ) (xs ys : List ℕ) → HasNone c xs → HasNone c ys → HasNone c (xs ++ ys)
+pub none-append : (c : ℕ) (xs ys : List ℕ) → HasNone c xs → HasNone c ys → HasNone c (xs ++ ys)
 none-append c [] ys p q = q
 none-append c (x ∷ xs) ys p q = (p.0, none-append c xs ys p.1 q)
 

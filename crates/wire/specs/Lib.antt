@@ -4,6 +4,7 @@ pub mod Values
 pub mod Acknowledgements
 pub mod Fences
 pub mod Handed
+pub mod Pairs
 pub mod Feeds
 pub mod Requests
 pub mod Answers

@@ -1,0 +1,23 @@
+//! `make IMAGE K KEEPERS NEED PAIR LOG`: the log of a keeper of the pair is made, and fences that say so.
+
+ghost use Rattle.std.specs.Prelude.{◌≡◌, IfOk};
+
+use crate::faults::make_fault;
+use crate::files::{HostDisk, Places};
+use ends::{Fault, Host};
+use keeper_files::make_files;
+use live_primary::read_image_file;
+use live_words::MakeWords;
+use std::result::Result;
+
+/// Makes a log, and gives the status that the program ends with.
+pub fn make<H: Host>(rt: &H, words: &MakeWords<'_>) -> Result<u8, Fault>
+    ensures { IfOk result (λ status. status ≡ 0) }
+{
+    let guest = read_image_file(rt, words.image)?.guest();
+    let mut disk = HostDisk::new(rt, Places::new(rt, words.log)?);
+    match make_files(&mut disk, &guest, words.keeper, words.pair) {
+        Ok(()) => Ok(0),
+        Err(fault) => Err(make_fault(fault)),
+    }
+}
