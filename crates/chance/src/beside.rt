@@ -3,19 +3,19 @@
 ghost use Rattle.std.specs.Prelude.{◌<◌, ◌≤◌};
 
 use crate::acts::Act;
+use crate::fault::PlainFault;
 use crate::keeper::Rules;
 use crate::outcome::Outcome;
 use crate::plain::PlainWorld;
 use crate::subject::Subject;
 use crate::tally::Tally;
-use crate::fault::PlainFault;
-use primary::Released;
 use fragment_codec::Frame;
 use ft_types::{Memory, Term};
 use go_live::LiveFault;
 use guest_image::{Image, Machine};
 use log_join::{Put, Store};
 use output_gate::Output;
+use primary::Released;
 use std::alloc::Global;
 
 /// A world, a plain one to which the same happens, and what happened.
@@ -61,12 +61,7 @@ fn has_all(machine: &Machine, term: Term, released: &[Released]) -> bool {
 
 impl Beside {
     /// Two worlds of the image.
-    pub fn new(
-        alloc: Global,
-        image: &Image,
-        keepers: u8,
-        need: u8,
-    ) -> Result<Beside, Memory>
+    pub fn new(alloc: Global, image: &Image, keepers: u8, need: u8) -> Result<Beside, Memory>
         requires { (0 < need) × (need ≤ keepers) × (keepers ≤ 5) }
     {
         let plain = PlainWorld::new(alloc, image, Rules::Stopping, keepers, need)?;

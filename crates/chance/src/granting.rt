@@ -1,10 +1,10 @@
 //! Grants in a plain world.
 
+use crate::fault::PlainFault;
 use crate::keeper::Rules;
 use crate::plain::PlainWorld;
 use crate::plain_primary::PlainPrimary;
 use closed_cut::{Position, position};
-use crate::fault::PlainFault;
 use fragment_codec::{Frame, Opening};
 use ft_types::{Memory, Term};
 use go_live::LiveFault;

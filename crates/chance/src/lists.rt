@@ -61,12 +61,7 @@ fn begin(alloc: Global, image: &Image, chance: &mut Chance) -> Result<Beside, Me
 }
 
 /// Applies the list of this number to two worlds. Says whether they agree, and adds what happened.
-fn agree_by(
-    alloc: Global,
-    image: &Image,
-    number: u64,
-    tally: &mut Tally,
-) -> Result<bool, Memory> {
+fn agree_by(alloc: Global, image: &Image, number: u64, tally: &mut Tally) -> Result<bool, Memory> {
     let mut chance = Chance::new(number.wrapping_mul(0x9e37_79b9_7f4a_7c15) | 1);
     let mut worlds = begin(alloc, image, &mut chance)?;
     let agreed = agree_to_the_end(alloc, image, &mut chance, &mut worlds);

@@ -162,9 +162,11 @@ impl Live {
     /// The keeper's log is fenced off for the term, and handed over: whether it is.
     pub fn gives(&mut self, alloc: Global, keeper: u64, term: Term) -> Result<bool, Memory> {
         let _ended = self.hand(alloc, keeper, HandAct::Ends)?;
-        Ok(self.hand(alloc, keeper, HandAct::Looks)?
-            && self.hand(alloc, keeper, HandAct::Fences(term))?
-            && self.hand(alloc, keeper, HandAct::Reads)?)
+        Ok(
+            self.hand(alloc, keeper, HandAct::Looks)?
+                && self.hand(alloc, keeper, HandAct::Fences(term))?
+                && self.hand(alloc, keeper, HandAct::Reads)?,
+        )
     }
 
     /// Whether the keeper's log was handed over to the term.
@@ -204,12 +206,7 @@ impl Live {
     }
 
     /// These keepers hand over to the term, where they did not yet, and its primary goes live: what comes of it.
-    pub fn grant(
-        &mut self,
-        alloc: Global,
-        term: Term,
-        keepers: &[u64],
-    ) -> Result<Outcome, Memory> {
+    pub fn grant(&mut self, alloc: Global, term: Term, keepers: &[u64]) -> Result<Outcome, Memory> {
         for keeper in keepers {
             if !self.gave(*keeper, term) {
                 let _gives = self.gives(alloc, *keeper, term)?;
@@ -222,8 +219,10 @@ impl Live {
     pub fn asks(&mut self, alloc: Global, term: Term, request: Request) -> Result<bool, Memory> {
         let asked = self.world.asked().len();
         let primary = self.primary_of(term);
-        Ok(self.client_does(alloc, ClientEvent::Want(request))?
-            && self.primary_does(alloc, PrimaryEvent::Request { primary, asked })?)
+        Ok(
+            self.client_does(alloc, ClientEvent::Want(request))?
+                && self.primary_does(alloc, PrimaryEvent::Request { primary, asked })?,
+        )
     }
 
     /// A word for a hart of the term's machine.

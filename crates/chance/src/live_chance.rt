@@ -219,9 +219,7 @@ impl LiveList {
         let term = self.term();
         let primary = self.live.primary_of(term);
         let done = self.live.round(alloc, term)?;
-        let _sealed = self
-            .live
-            .primary_does(alloc, PrimaryEvent::Seal(primary))?;
+        let _sealed = self.live.primary_does(alloc, PrimaryEvent::Seal(primary))?;
         self.count(ROUNDS, done);
         Ok(())
     }

@@ -12,7 +12,8 @@ use wire::Answer;
 
 /// lui x1, f0000; lui x6, 1; srli x6, x6, 1; then again and again sw x6, 12(x1), which clears the word's interrupt; lw x2, 0(x1), the input word;
 /// sw x2, 8(x1), an output; and back.
-const SAYS_EACH_WORD: &[u8] = b"harts 1\npages 1\nf00000b7\n00001337\n00135313\n0060a623\n0000a103\n0020a423\nff5ff06f\n";
+const SAYS_EACH_WORD: &[u8] =
+    b"harts 1\npages 1\nf00000b7\n00001337\n00135313\n0060a623\n0000a103\n0020a423\nff5ff06f\n";
 
 /// How many steps an act goes on: a word is said behind three.
 const STEPS: u64 = 2;

@@ -2,17 +2,17 @@
 //! board and no fence: what it is asked it finds in these lists.
 
 use crate::acts::{Act, hart_of};
+use crate::fault::PlainFault;
 use crate::keeper::{PlainKeeper, Rules};
 use crate::plain_primary::PlainPrimary;
 use ack_core::AckFault;
 use closed_cut::{Position, position};
-use crate::fault::PlainFault;
-use primary::Released;
 use fragment_codec::{Frame, Opening};
 use ft_types::{Count, Counts, HART_LIMIT, HART_ROW, Hart, Memory, Term};
 use guest_image::{Image, Machine};
 use input_log::Input;
 use log_join::Store;
+use primary::Released;
 use std::alloc::Global;
 
 /// Who acknowledged which counts in which term.

@@ -1,8 +1,8 @@
 //! A plain primary: the machine with which its term began, what was noted by then, and a book of all that it did since.
 
 use crate::again::{machine_at, one_step};
-use crate::starts::recorder_from;
 use crate::fault::PlainFault;
+use crate::starts::recorder_from;
 use fixtures::cut;
 use fragment_codec::{Frame, Opening};
 use ft_types::{COUNT_LIMIT, Counts, Guest, HART_ROW, Hart, Memory};

@@ -1,14 +1,14 @@
 //! What goes out in a plain world, and what is noted of that.
 
+use crate::fault::PlainFault;
 use crate::keeper::Rules;
 use crate::plain::PlainWorld;
 use crate::plain_primary::Marks;
 use closed_cut::Position;
-use crate::fault::PlainFault;
-use primary::Released;
 use fragment_codec::{Fragment, Frame, Record};
 use ft_types::{Count, Counts, HART_ROW, Hart, Memory, Term};
 use output_gate::Output;
+use primary::Released;
 use std::alloc::Global;
 
 /// What is noted in a piece of the term, inside these counts.

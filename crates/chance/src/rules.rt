@@ -2,15 +2,15 @@
 //! lead there comes to something else, and what was told is kept.
 
 use crate::acts::Act;
+use crate::fault::PlainFault;
 use crate::keeper::Rules;
 use crate::live::Live;
 use crate::outcome::Outcome;
 use crate::plain::PlainWorld;
-use crate::fault::PlainFault;
-use primary::Released;
 use fixtures::{SAYS_ITS_WORD, image_of};
 use ft_types::Memory;
 use guest_image::Image;
+use primary::Released;
 use std::alloc::Global;
 use std::test::Fail;
 
