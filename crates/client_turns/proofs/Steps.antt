@@ -1,11 +1,11 @@
 -- A client's talk that is led on: what was done so far, and what is still to come.
-use Rattle.std.proofs.Common.{◌≡◌, ◌+◌, ◌-◌, ◌<◌, ℕ, zero, suc, List, [], ◌∷◌, ◌++◌, Option, None, Some, length, get_or, drop, refl, sym, ap, subst, ◌∙◌, append_assoc, append-nil, arith}
+use Rattle.std.proofs.Common.{◌≡◌, ◌+◌, ◌<◌, ℕ, zero, suc, List, [], ◌∷◌, ◌++◌, Option, None, Some, length, get_or, drop, refl, sym, ap, subst, ◌∙◌, append_assoc, append-nil, arith}
 use Rattle.std.proofs.lemmas.List.{drop_more}
 use Rattle.wire.specs.declared.requests.Request.{Request}
 use Rattle.asking.specs.Talks.{TalkView}
 use Rattle.asking.specs.declared.talk.Told.{Told as Answered}
 use Rattle.requests.specs.Asking.{had, next_of}
-use Rattle.client_turns.specs.Turns.{Tells, ToldAll, Told, Asks, AskedAll, Asked, TakesLine, SaidFull, SaidOther, Said, TakesLines, TookOne, TookLast, TookAll, Hears, anew, has_read, one_sent}
+use Rattle.client_turns.specs.Turns.{Tells, ToldAll, Told, Asks, AskedAll, Asked, TakesLine, SaidFull, SaidOther, Said, TakesLines, TookOne, TookLast, TookAll, GoesOn, Hears, anew, has_read, one_sent}
 use Rattle.client_turns.specs.declared.deeds.ClientDeed.{ClientDeed}
 use Rattle.client_turns.specs.declared.deeds.ClientDeed.TheVariants.{Ask, Print}
 use Rattle.client_turns.specs.declared.deeds.ClientEnd.{ClientEnd}
@@ -144,12 +144,32 @@ unsent t = ap (λ (n : ℕ). let v : TalkView = record t { asker = record t.aske
 
 -- ---- a line
 
-pub said_other : (t new : TalkView) (text : List ℕ) (what : Heard) → (SaysFull HART_LIMIT text 0 → ⊥) → Hears t text what new → what ≡ Contradiction →
+contradicts : (t new : TalkView) (text : List ℕ) (what : Heard) → (SaysFull HART_LIMIT text 0 → ⊥) → Hears t text what new → what ≡ Contradiction →
     TakesLine text t new [] (Some Contradicted)
-said_other t new text what other hears is =
+contradicts t new text what other hears is =
     let same : new ≡ t = hears.stays (λ e. let no : Contradiction ≡ New = sym is ∙ e in absurd cc) in
     subst (λ (v : TalkView). TakesLine text t v [] (Some Contradicted)) (sym same)
     (SaidOther t other (subst (λ (v : TalkView). Hears t text Contradiction v) same (subst (λ (w : Heard). Hears t text w new) is hears)))
+
+pub said_other : (t new : TalkView) (text : List ℕ) (before behind : List ClientDeed) (what : Heard) → (SaysFull HART_LIMIT text 0 → ⊥) →
+    Hears t text what new → behind ≡ before ++ anew what → what ≡ Contradiction →
+    (done : List ClientDeed) × TakesLine text t new done (Some Contradicted) × (behind ≡ before ++ done)
+said_other t new text before behind what other hears added is = (
+  [],
+  contradicts t new text what other hears is,
+  added ∙ ap (λ (w : Heard). before ++ anew w) is,
+)
+
+-- the client goes on behind a line that does not end it
+pub said_line : (t heard new : TalkView) (text : List ℕ) (before middle behind : List ClientDeed) (what : Heard) → (SaysFull HART_LIMIT text 0 → ⊥) →
+    Hears t text what heard → middle ≡ before ++ anew what → (what ≡ Contradiction → ⊥) →
+    (done : List ClientDeed) × GoesOn heard new done × (behind ≡ middle ++ done) →
+    (done : List ClientDeed) × TakesLine text t new done None × (behind ≡ before ++ done)
+said_line t heard new text before middle behind what other hears added clean goes = (
+  anew what ++ goes.0,
+  Said t heard new what goes.0 other hears clean goes.1,
+  added_behind before middle behind (anew what) goes.0 added goes.2,
+)
 
 pub full_said : (t : TalkView) (text : List ℕ) (items : List ClientDeed) → SaysFull HART_LIMIT text 0 →
     (done : List ClientDeed) × TakesLine text t t done (Some Full) × (items ≡ items ++ done)

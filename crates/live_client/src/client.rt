@@ -37,7 +37,7 @@ impl Reads<LineText> for Whole {
 
 /// The threads of a client, and its clock.
 #[derive(Drop)]
-struct Ends {
+struct Shell {
     events: Receiver<Event<LineText>>,
     posts: Vec<Post>,
     patience: Duration,
@@ -68,15 +68,15 @@ fn now<H: Host>(rt: &H) -> Result<Instant, Fault> {
     }
 }
 
-/// As it is told why a client ended, unless it is done.
-fn ended(end: ClientEnd) -> Result<(), Fault>
+/// The fault by which a client ended, unless it is done.
+fn fault_of(end: ClientEnd) -> Option<Fault>
     ensures { result ≡ told_of_end end }
 {
     match end {
-        ClientEnd::Done => Ok(()),
-        ClientEnd::Contradiction => Err(Fault::Contradiction),
-        ClientEnd::Full => Err(Fault::Full),
-        ClientEnd::Unanswered(number) => Err(Fault::Unanswered(number)),
+        ClientEnd::Done => None,
+        ClientEnd::Contradiction => Some(Fault::Contradiction),
+        ClientEnd::Full => Some(Fault::Full),
+        ClientEnd::Unanswered(number) => Some(Fault::Unanswered(number)),
     }
 }
 
@@ -90,15 +90,15 @@ fn came_of(event: Event<LineText>) -> Result<ClientCame, Fault> {
     }
 }
 
-impl Ends {
+impl Shell {
     /// Starts the threads of all inputs and outputs.
-    fn start<H: Host>(rt: &H, words: &ClientWords<'_>) -> Result<Ends, Fault> {
+    fn start<H: Host>(rt: &H, words: &ClientWords<'_>) -> Result<Shell, Fault> {
         let (to, events) = row(rt.alloc(), ROOM)?;
         let to = Door::new(to, Arc::new(rt.alloc(), Waiting)?);
         let mut threads = Vec::new(rt.alloc());
         let posts = begin_posts(rt, 0, &words.requests, Keeps::Last, &to, &mut threads)?;
         let _none = listen_all(rt, 0, &words.answers, Listening::Plain, Whole, &to)?;
-        Ok(Ends {
+        Ok(Shell {
             events,
             posts,
             patience: Duration::from_millis(words.millis),
@@ -115,7 +115,8 @@ impl Ends {
 
     /// Prints an answer.
     fn print<H: Host>(&self, rt: &H, told: &Told) -> Result<(), Fault> {
-        match io::writer(rt).write_all(told_line(told).as_slice()) {
+        let mut out = io::writer(rt);
+        match out.write_all(told_line(told).as_slice()) {
             Ok(()) => Ok(()),
             Err(_) => Err(Fault::Write),
         }
@@ -170,7 +171,10 @@ impl Ends {
         for _ in rt.forever() {
             let deeds = client.turn(rt.alloc(), came)?;
             if let Some(end) = self.carry_out_all(rt, &deeds)? {
-                return ended(end);
+                return match fault_of(end) {
+                    Some(fault) => Err(fault),
+                    None => Ok(()),
+                };
             }
             came = self.wait(rt)?;
         }
@@ -181,8 +185,8 @@ impl Ends {
 fn ask_all<H: Host>(rt: &H, words: &ClientWords<'_>) -> Result<(), Fault> {
     let asked = words_of(rt, words.file)?;
     let mut client = Client::new(rt.alloc(), asked, words.window, words.answers.len())?;
-    let mut ends = Ends::start(rt, words)?;
-    ends.lead(rt, &mut client)
+    let mut shell = Shell::start(rt, words)?;
+    shell.lead(rt, &mut client)
 }
 
 /// Asks for the words of a file, and prints each answer once, in the order of the words. The status that the program ends with; a fault

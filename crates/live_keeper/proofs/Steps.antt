@@ -5,8 +5,7 @@ use Rattle.fragment_codec.specs.declared.frame.Frame.{Frame}
 use Rattle.fragment_codec.specs.Streams.{spelling}
 use Rattle.log_join.specs.Answers.{answer_to}
 use Rattle.log_join.specs.Stores.{StoreView, IsJoin, alone}
-use Rattle.log_join.specs.declared.answers.Put.{Put}
-use Rattle.log_join.specs.declared.answers.Put.TheVariants.{New, Same, OtherGuest, Clash}
+use Rattle.log_join.specs.declared.answers.Put.TheVariants.{New}
 use Rattle.stations.specs.Stations.{StationView}
 use Rattle.live_keeper.specs.Turns.{KeepingView, TakesFrames, TookAll, TookNew, TookOther, with_new, TakesEvent, TakesEvents, NoEvent, OneEvent, is_logged, are_logged, passed_of, passes, IsPass}
 use Rattle.live_keeper.specs.declared.events.Event.{Event}
@@ -30,20 +29,11 @@ with_is s t frame fresh seen keeper =
     ∙ ap (λ (fence : ℕ). let v : StationView = record { keeper = s.keeper; store = t.store; fresh = t.fresh; seen = fence } in v) (sym seen)
     ∙ ap (λ (number : ℕ). let v : StationView = record { keeper = number; store = t.store; fresh = t.fresh; seen = t.seen } in v) (sym keeper)
 
-other_took : (s t : StationView) (frame : Frame) (put : Put) → put ≡ answer_to s.store frame → (put ≡ New → ⊥) → (put ≡ Clash → ⊥) → t ≡ s →
-    TakesFrames s (frame ∷ []) t
-other_took s t frame put is other clean same = subst (λ (v : StationView). TakesFrames s (frame ∷ []) v) (sym same)
-    (TookOther s s frame [] (λ e. other (is ∙ e)) (λ e. clean (is ∙ e)) (TookAll s))
-
--- what `take` says of a frame that does not clash
-pub took : (s t : StationView) (frame : Frame) (put : Put) → put ≡ answer_to s.store frame → (put ≡ Clash → ⊥) →
-    (put ≡ New → IsJoin s.store (alone frame) t.store) → (put ≡ New → t.fresh ≡ s.fresh ++ spelling frame) → ((put ≡ New → ⊥) → t ≡ s) →
-    t.seen ≡ s.seen → t.keeper ≡ s.keeper → TakesFrames s (frame ∷ []) t
-took s t frame New is clean join fresh stays seen keeper = TookNew s t frame [] t.store (sym is) (join refl)
-    (subst (λ (v : StationView). TakesFrames v [] t) (sym (with_is s t frame (fresh refl) seen keeper)) (TookAll t))
-took s t frame Same is clean join fresh stays seen keeper = other_took s t frame Same is (λ e. absurd cc) clean (stays (λ e. absurd cc))
-took s t frame OtherGuest is clean join fresh stays seen keeper = other_took s t frame OtherGuest is (λ e. absurd cc) clean (stays (λ e. absurd cc))
-took s t frame Clash is clean join fresh stays seen keeper = absurd (clean refl)
+-- what `take` says of a frame that is new
+pub took_new : (s t : StationView) (frame : Frame) → answer_to s.store frame ≡ New → IsJoin s.store (alone frame) t.store →
+    t.fresh ≡ s.fresh ++ spelling frame → t.seen ≡ s.seen → t.keeper ≡ s.keeper → TakesFrames s (frame ∷ []) t
+took_new s t frame is join fresh seen keeper = TookNew s t frame [] t.store is join
+    (subst (λ (v : StationView). TakesFrames v [] t) (sym (with_is s t frame fresh seen keeper)) (TookAll t))
 
 -- ---- events
 
@@ -61,14 +51,32 @@ or_false : (b : Bool) → (b || false) ≡ b
 or_false true = refl
 or_false false = refl
 
-pub logged_more : (events : List Event) (event : Event) → are_logged (events ++ event ∷ []) ≡ (are_logged events || is_logged event)
+logged_more : (events : List Event) (event : Event) → are_logged (events ++ event ∷ []) ≡ (are_logged events || is_logged event)
 logged_more [] event = or_false (is_logged event)
 logged_more (first ∷ events) event = ap (λ (b : Bool). is_logged first || b) (logged_more events event) ∙ or_assoc (is_logged first) (are_logged events) (is_logged event)
 
-pub passes_more : (events : List Event) (event : Event) → passes (events ++ event ∷ []) ≡ passes events ++ passed_of event
+-- one that was to be logged before is still to be
+pub logged_before : (events : List Event) (event : Event) (logged : Bool) → logged ≡ are_logged events → logged ≡ true →
+    logged ≡ are_logged (events ++ event ∷ [])
+logged_before events event logged was is =
+    is ∙ sym (ap (λ (b : Bool). b || is_logged event) (sym was ∙ is)) ∙ sym (logged_more events event)
+
+-- and where none was, the next one decides
+pub logged_now : (events : List Event) (event : Event) (logged asked : Bool) → logged ≡ are_logged events → logged ≡ false → asked ≡ is_logged event →
+    asked ≡ are_logged (events ++ event ∷ [])
+logged_now events event logged asked was is next =
+    next ∙ sym (ap (λ (b : Bool). b || is_logged event) (sym was ∙ is)) ∙ sym (logged_more events event)
+
+passes_more : (events : List Event) (event : Event) → passes (events ++ event ∷ []) ≡ passes events ++ passed_of event
 passes_more [] event = append-nil (passed_of event)
 passes_more (first ∷ events) event =
     ap (λ (ds : List KeeperDeed). passed_of first ++ ds) (passes_more events event) ∙ sym (append_assoc (passed_of first) (passes events) (passed_of event))
+
+pub passed_on : (events : List Event) (event : Event) (before middle behind : List KeeperDeed) → middle ≡ before ++ passes events →
+    behind ≡ middle ++ passed_of event → behind ≡ before ++ passes (events ++ event ∷ [])
+passed_on events event before middle behind was is =
+    is ∙ ap (λ (ds : List KeeperDeed). ds ++ passed_of event) was ∙ append_assoc before (passes events) (passed_of event)
+    ∙ ap (λ (ds : List KeeperDeed). before ++ ds) (sym (passes_more events event))
 
 -- ---- deeds that say nothing
 

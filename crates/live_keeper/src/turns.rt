@@ -2,9 +2,11 @@
 
 ghost use Rattle.std.specs.Prelude.{◌≡◌, ◌≢◌, ◌++◌, ◌∷◌, ◌⊎◌, [], List, false, map, IfOk, IfErr, OnOk, OnErr, IsTrue, ◌↔◌};
 ghost use Rattle.std.specs.List.{AllByRecursion};
+ghost use Rattle.std.specs.Option.{option_to_list};
 ghost use Rattle.log_join.specs.Answers.{answer_to};
 ghost use Rattle.live_keeper.specs.Turns.{IsPass, Logs, TakesEvent, TakesEvents, TakesFrames, TurnsKeeper, are_logged, is_logged, passed_of, passes};
 ghost use Rattle.live_keeper.specs.declared.events.KeeperDeed.{KeeperDeed as deed_of_specs};
+ghost use Rattle.live_keeper.specs.declared.events.KeeperDeed.TheVariants.{Say};
 
 use crate::events::{Event, KeeperDeed};
 use crate::faults::files_fault;
@@ -47,6 +49,17 @@ fn add(deeds: &mut Vec<KeeperDeed>, deed: KeeperDeed) -> Result<(), Memory>
     deeds.reserve(1)?;
     deeds.push_reserved(deed);
     Ok(())
+}
+
+/// Says what is acknowledged, where something is.
+fn say(said: Option<Acknowledgement>, deeds: &mut Vec<KeeperDeed>) -> Result<(), Memory>
+    ensures said { OnOk result (deeds.new.items ≡ deeds.old.items ++ map Say (option_to_list said)) }
+    ensures err { OnErr result (deeds.new.items ≡ deeds.old.items) }
+{
+    match said {
+        Some(said) => add(deeds, KeeperDeed::Say(said)),
+        None => Ok(()),
+    }
 }
 
 /// Takes a frame of the input with this number. One that clashes ends the keeper.
@@ -199,13 +212,12 @@ impl Keeping {
         ensures silent { IfErr result (λ _. AllByRecursion IsPass deeds.old.items → AllByRecursion IsPass deeds.new.items) }
     {
         let mut keeping = self;
-        if !keeping.take_all(alloc, came, deeds)? {
+        let logged = keeping.take_all(alloc, came, deeds)?;
+        if !logged {
             return Ok(keeping);
         }
         let (keeping, said) = keeping.log(alloc, files)?;
-        if let Some(said) = said {
-            add(deeds, KeeperDeed::Say(said))?;
-        }
+        say(said, deeds)?;
         Ok(keeping)
     }
 
