@@ -7,6 +7,7 @@ mod commands;
 mod failing_over;
 mod faults;
 mod files;
+mod graphs;
 mod words;
 
 pub use audits::audit_streams;
@@ -14,5 +15,6 @@ pub use commands::{command, no_output, no_request};
 pub use failing_over::fail_over;
 pub use faults::CommandFault;
 pub use files::Files;
+pub use graphs::graph_streams;
 pub use log_streams::{PairOrders, Pairs};
 pub use word_forms::WordsFault;

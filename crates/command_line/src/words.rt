@@ -27,6 +27,8 @@ pub enum Task<'a> {
     Cut(Vec<&'a str>),
     /// Tell whether these logs lead to one machine by every schedule.
     Audit(Vec<&'a str>),
+    /// Draw these logs.
+    Graph(Vec<&'a str>),
     /// Run a primary, and write its frames to a file.
     Run {
         script: &'a str,
@@ -80,6 +82,7 @@ impl<'a> Task<'a> {
         match self {
             Task::Replay(logs) | Task::Join { logs, .. } => name_at(logs, number),
             Task::Cut(logs) | Task::Audit(logs) => name_at(logs, number),
+            Task::Graph(logs) => name_at(logs, number),
             _ => "",
         }
     }
@@ -115,9 +118,9 @@ fn name_at<'a>(names: &Vec<&'a str>, number: usize) -> &'a str {
     }
 }
 
-/// `replay IMAGE LOGS..`, `join IMAGE OUT LOGS..`, `cut IMAGE LOGS..`, `audit IMAGE LOGS..`, `run IMAGE SCRIPT BUDGET OUT`,
+/// `replay IMAGE LOGS..`, `join IMAGE OUT LOGS..`, `cut IMAGE LOGS..`, `audit IMAGE LOGS..`, `graph IMAGE LOGS..`, `run IMAGE SCRIPT BUDGET OUT`,
 /// `pair IMAGE SCRIPT BUDGET KEEPERS NEED`, also with `warm` behind it, `failover IMAGE EVENTS KEEPERS NEED`
-static FORMS: [Form; 7] = [
+static FORMS: [Form; 8] = [
     Form {
         name: "replay",
         words: &["image"],
@@ -138,6 +141,12 @@ static FORMS: [Form; 7] = [
     },
     Form {
         name: "audit",
+        words: &["image"],
+        has_paths: true,
+        behind: &[],
+    },
+    Form {
+        name: "graph",
         words: &["image"],
         has_paths: true,
         behind: &[],
@@ -231,6 +240,7 @@ fn task_of<'a>(
         "join" => join(words, logs),
         "cut" => Ok(Task::Cut(logs)),
         "audit" => Ok(Task::Audit(logs)),
+        "graph" => Ok(Task::Graph(logs)),
         "run" => run(words),
         "pair" => pair(words, is_warm),
         "failover" => fail_over(words),
