@@ -317,6 +317,7 @@ fn run_task<F: Files, P: Pairs, W: Sink>(
             ..
         } => pair_script(alloc, image, orders, *is_warm, request, files, pairs, out),
         Task::FailOver { quorum, .. } => apply_events(alloc, image, *quorum, request, files, out),
+        _ => Err(CommandFault::Usage),
     }
 }
 
