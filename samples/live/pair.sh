@@ -1,7 +1,8 @@
 #!/bin/bash
 # pair.sh [LIVE [GUEST]]: three keepers, a primary and a client, each a process of its own, over FIFOs. The primary is killed, the next one goes live from what two
 # keepers hand over, and goes on. LIVE is the built program, by itself the one that `rt run` leaves; where there is none, it is built first, without a proof. GUEST is
-# `service`, which is asked words, or `lua` (guests/README.md), which is asked lines of Lua. Needs bash, GNU od and mkfifo.
+# `service`, which is asked words, `lua` (guests/README.md), which is asked lines of Lua, or `race`. IMAGE is another image of the guest, and LOGS a folder to which the
+# keepers' logs are copied at the end. Needs bash, GNU od and mkfifo.
 set -eu
 top=$(cd "$(dirname "$0")/../.." && pwd)
 live=${1:-$top/crates/live/out/live}
@@ -9,6 +10,9 @@ case $live in /*) ;; *) live=$PWD/$live ;; esac
 guest=${2:-service}
 image=$top/guests/images/$guest.image
 if [ "$guest" = lua ]; then image=$top/guests/out/-O2/lua.image; fi
+if [ "$guest" = race ]; then image=$top/samples/race.image; fi
+image=${IMAGE:-$image}
+logs=$(realpath "${LOGS:-.}")
 at=$(mktemp -d)
 # Ends what this script started, and nothing else.
 finish() {
@@ -62,12 +66,16 @@ for k in 0 1 2; do
     "$live" keeper "$image" "$k" "log.$k" from "frames.$k" to "acks.$k" &
 done
 case $guest in
+    race) first=(00000064 000003e8) second=(00000007) ;;
     service) first=(01070011 01070012 01080012 03070012) second=(02070011 01070012 01280011 00080011) ;;
     lua) first=('stock = {bolts = 7}' 'stock.bolts = stock.bolts - 2' 'stock.bolts') second=('stock.nuts = 12' 'stock.bolts + stock.nuts') ;;
 esac
 lead 1 0 1
-"$guest" "${first[@]}"
+ask_for=$guest
+if [ "$guest" = race ]; then ask_for=service; fi
+"$ask_for" "${first[@]}"
 { kill -9 "$primary" && wait "$primary"; } 2> /dev/null || true
 echo 'the primary of term 1 is killed'
 lead 2 1 2
-"$guest" "${second[@]}"
+"$ask_for" "${second[@]}"
+if [ -n "${LOGS:-}" ]; then cp log.0 log.1 log.2 "$logs"; fi
