@@ -3,8 +3,8 @@
 use crate::audits::planned;
 use crate::faults::{CommandFault, replayed, written};
 use crate::words::Place;
-use debugging::write_mnemonic;
-use ft_types::{Count, Failed, HART_LIMIT, Hart, LineBuffer, Sink, Source, write_all};
+use debugging::mnemonic;
+use ft_types::{Count, Failed, HART_LIMIT, Hart, LineBuffer, Memory, Sink, Source, write_all};
 use guest_image::Image;
 use input_log::Input;
 use log_streams::read_store;
@@ -22,6 +22,8 @@ struct Outset {
     outputs: usize,
     /// The word at its pc, where that is in RAM.
     word: Option<u32>,
+    /// What the word says.
+    mnemonic: Vec<u8>,
     access: Access,
     /// What stands where the step reads or writes.
     value: u32,
@@ -48,16 +50,25 @@ fn value_of(line: &Timeline, access: Access) -> u32 {
     }
 }
 
-fn outset(line: &Timeline, hart: Hart) -> Outset {
+fn mnemonic_of(alloc: Global, pc: u32, word: Option<u32>) -> Result<Vec<u8>, Memory> {
+    match word {
+        Some(word) => mnemonic(alloc, pc, word),
+        None => Ok(Vec::new(alloc)),
+    }
+}
+
+fn outset(alloc: Global, line: &Timeline, hart: Hart) -> Result<Outset, Memory> {
     let state = line.hart(hart);
     let access = line.access();
-    Outset {
+    let word = line.word(state.pc());
+    Ok(Outset {
         hart: state.without_outputs(),
         outputs: state.outputs().len(),
-        word: line.word(state.pc()),
+        word,
+        mnemonic: mnemonic_of(alloc, state.pc(), word)?,
         access,
         value: value_of(line, access),
-    }
+    })
 }
 
 /// Writes a name and a word, each behind a space.
@@ -105,12 +116,7 @@ fn write_inputs<W: Sink>(inputs: &[Input], out: &mut W) -> Result<(), Failed> {
 }
 
 /// Writes bytes of RAM: their address and their number.
-fn write_bytes<W: Sink>(
-    name: &[u8],
-    bytes: Bytes,
-    value: u32,
-    out: &mut W,
-) -> Result<(), Failed> {
+fn write_bytes<W: Sink>(name: &[u8], bytes: Bytes, value: u32, out: &mut W) -> Result<(), Failed> {
     write_word(name, bytes.first, out)?;
     let mut text = LineBuffer::new();
     text.push(b" ");
@@ -236,10 +242,10 @@ fn write_fetched<W: Sink>(word: Option<u32>, out: &mut W) -> Result<(), Failed> 
 }
 
 /// Writes the end of the line.
-fn write_end<W: Sink>(word: Option<u32>, out: &mut W) -> Result<(), Failed> {
-    if let Some(word) = word {
+fn write_end<W: Sink>(word: Option<u32>, mnemonic: &[u8], out: &mut W) -> Result<(), Failed> {
+    if word.is_some() {
         write_all(out, b" : ")?;
-        write_mnemonic(word, out)?;
+        write_all(out, mnemonic)?;
     }
     write_all(out, b"\n")
 }
@@ -258,7 +264,7 @@ fn write_rest<W: Sink>(
     write_access(line, before, out)?;
     write_changes(before, after, out)?;
     write_cause(cause, out)?;
-    write_end(word, out)
+    write_end(word, &before.mnemonic, out)
 }
 
 /// Writes what the step of a hart begins with.
@@ -268,8 +274,13 @@ fn write_outset<W: Sink>(line: &Timeline, hart: Hart, out: &mut W) -> Result<(),
 }
 
 /// Takes the hart's step, which comes next, and writes its line.
-fn trace_step<W: Sink>(line: &mut Timeline, hart: Hart, out: &mut W) -> Result<(), CommandFault> {
-    let before = outset(line, hart);
+fn trace_step<W: Sink>(
+    alloc: Global,
+    line: &mut Timeline,
+    hart: Hart,
+    out: &mut W,
+) -> Result<(), CommandFault> {
+    let before = outset(alloc, line, hart)?;
     written(write_outset(line, hart, out))?;
     if let Err(fault) = line.forward() {
         return Err(replayed(fault));
@@ -278,13 +289,9 @@ fn trace_step<W: Sink>(line: &mut Timeline, hart: Hart, out: &mut W) -> Result<(
 }
 
 /// Takes the step that comes next, and writes its line where it is the hart's. False where there is none.
-fn trace_next<W: Sink>(
-    line: &mut Timeline,
-    hart: Hart,
-    out: &mut W,
-) -> Result<bool, CommandFault> {
+fn trace_next<W: Sink>(line: &mut Timeline, hart: Hart, out: &mut W) -> Result<bool, CommandFault> {
     if line.next() == Some(hart) {
-        trace_step(line, hart, out)?;
+        trace_step(alloc, line, hart, out)?;
         return Ok(true);
     }
     match line.forward() {
@@ -307,6 +314,7 @@ fn go_to(line: &mut Timeline, place: Place) -> Result<(), CommandFault> {
 
 /// Writes a line for each step of a hart, from the place on and below the count.
 fn trace_line<W: Sink>(
+    alloc: Global,
     line: &mut Timeline,
     from: Place,
     to: Count,
@@ -318,7 +326,7 @@ fn trace_line<W: Sink>(
         if line.hart(hart).count() >= to {
             break;
         }
-        if !trace_next(line, hart, out)? {
+        if !trace_next(alloc, line, hart, out)? {
             return Err(CommandFault::NoStep(Place { hart, count: to }));
         }
     }
@@ -349,5 +357,5 @@ pub fn trace_streams<R: Source, W: Sink>(
     out: &mut W,
 ) -> Result<(), CommandFault> {
     let mut line = timeline_of(alloc, image, readers)?;
-    trace_line(&mut line, from, to, out)
+    trace_line(alloc, &mut line, from, to, out)
 }
