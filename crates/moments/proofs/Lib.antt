@@ -1,1 +1,4 @@
-
+pub mod Sums
+pub mod Moves
+pub mod Standings
+pub mod Parts

@@ -4,6 +4,7 @@
 mod access;
 mod closure;
 mod cuts;
+mod laws;
 mod machines;
 mod next;
 mod points;
@@ -14,5 +15,6 @@ mod travel;
 
 pub use access::{Access, Bytes};
 pub use cuts::machine_at;
+pub use laws::honest_moments;
 pub use points::{Point, Stop, Watched};
 pub use timeline::Timeline;

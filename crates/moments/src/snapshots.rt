@@ -1,7 +1,11 @@
 //! Machines at moments.
 
+ghost use Rattle.std.specs.Prelude.{◌≡◌, ◌<◌, ◌≤◌, ◌⊎◌, Contains, IfOk};
+ghost use Rattle.hart_lease.specs.Runs.{counts_of};
+ghost use Rattle.moments.specs.machinery.Machines.{machine_of, standing_of};
+
 use crate::machines::SteppedMachine;
-use ft_types::Memory;
+use ft_types::{Count, Hart, Memory};
 use std::result::Result;
 
 /// The machine at a moment, in a leg of its plan.
@@ -14,34 +18,59 @@ pub(crate) struct Snapshot {
     pub(crate) machine: SteppedMachine,
 }
 
-impl Snapshot {
-    /// An equal one, whose machine has the pages too.
-    pub(crate) fn share(&mut self) -> Result<Snapshot, Memory> {
-        Ok(Snapshot {
-            moment: self.moment,
-            leg: self.leg,
-            machine: self.machine.share()?,
-        })
-    }
-
-    /// An equal one.
-    pub(crate) fn copy(&self) -> Result<Snapshot, Memory> {
-        Ok(Snapshot {
-            moment: self.moment,
-            leg: self.leg,
-            machine: self.machine.copy()?,
-        })
-    }
+/// An equal snapshot, whose machine has the pages too.
+pub(crate) fn shared(snapshot: &mut Snapshot) -> Result<Snapshot, Memory>
+    ensures same { IfOk result (λ s. standing_of s ≡ standing_of snapshot.old) }
+    ensures kept { standing_of snapshot.new ≡ standing_of snapshot.old }
+{
+    Ok(Snapshot {
+        moment: snapshot.moment,
+        leg: snapshot.leg,
+        machine: snapshot.machine.share()?,
+    })
 }
 
-/// The place of a snapshot at the greatest moment that is not above this one.
-pub(crate) fn nearest(kept: &[Snapshot], moment: u64) -> usize {
-    let mut place = 0;
-    for number in 0..kept.len() {
-        let there = kept[number].moment;
-        if kept[place].moment <= there && there <= moment {
-            place = number;
+/// An equal snapshot.
+pub(crate) fn copied(snapshot: &Snapshot) -> Result<Snapshot, Memory>
+    ensures { IfOk result (λ s. standing_of s ≡ standing_of snapshot.now) }
+{
+    Ok(Snapshot {
+        moment: snapshot.moment,
+        leg: snapshot.leg,
+        machine: snapshot.machine.copy()?,
+    })
+}
+
+/// Of the first snapshot and the kept ones the last one that is at no later moment.
+pub(crate) fn nearest<'a>(first: &'a Snapshot, kept: &'a [Snapshot], moment: u64) -> &'a Snapshot
+    requires { first.now.moment ≤ moment }
+    ensures among { (result.now ≡ first.now) ⊎ Contains kept.now result.now }
+    ensures before { result.now.moment ≤ moment }
+{
+    let mut nearest = first;
+    for snapshot in kept {
+        if nearest.moment <= snapshot.moment && snapshot.moment <= moment {
+            nearest = snapshot;
         }
     }
-    place
+    nearest
+}
+
+/// Of the kept snapshots the last one at which the hart has fewer steps, where there is one; else the first snapshot.
+pub(crate) fn last_below<'a>(
+    first: &'a Snapshot,
+    kept: &'a [Snapshot],
+    hart: Hart,
+    count: Count,
+) -> &'a Snapshot
+    ensures among { (result.now ≡ first.now) ⊎ Contains kept.now result.now }
+    ensures below { (result.now ≡ first.now) ⊎ (counts_of (machine_of result.now.machine) hart < count) }
+{
+    let mut last = first;
+    for snapshot in kept {
+        if last.moment <= snapshot.moment && snapshot.machine.count_of(hart) < count {
+            last = snapshot;
+        }
+    }
+    last
 }

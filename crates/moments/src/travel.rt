@@ -1,7 +1,9 @@
 //! Moments that are gone to.
 
+ghost use Rattle.std.specs.Prelude.{◌≡◌, ◌<◌, ◌≤◌, ◌+◌, ℕ, IfOk, OnOk};
+ghost use Rattle.moments.specs.Line.{LineView, steps_of};
+
 use crate::points::{Point, Stop, first_break, first_watch};
-use crate::snapshots::nearest;
 use crate::timeline::Timeline;
 use ft_types::{Count, Hart};
 use hart_replay::ReplayFault;
@@ -9,13 +11,14 @@ use std::option::Option;
 use std::result::Result;
 
 impl Timeline {
-    /// Goes to a moment, at most the last one.
-    pub fn go_to(&mut self, moment: u64) -> Result<(), ReplayFault> {
-        let place = nearest(&self.kept, moment);
-        if moment < self.now.moment || self.now.moment < self.kept[place].moment {
-            self.restore(place)?;
-        }
-        while self.now.moment < moment {
+    /// Goes to a moment.
+    pub fn go_to(&mut self, moment: u64) -> Result<(), ReplayFault>
+        requires { moment ≤ steps_of self.old.legs }
+        ensures line { self.new ≡ record self.old { now = self.new.now } }
+        ensures there { OnOk result (self.new.now.moment ≡ moment) }
+    {
+        self.near(moment)?;
+        while self.now() < moment {
             if !self.forward()? {
                 break;
             }
@@ -23,18 +26,12 @@ impl Timeline {
         Ok(())
     }
 
-    /// Goes to the first moment at which the hart has so many steps. False, and nothing is changed, where it never has.
+    /// Goes to the first moment at which the hart has so many steps. False, and nothing is changed, where the line has none.
     pub fn go_to_count(&mut self, hart: Hart, count: Count) -> Result<bool, ReplayFault> {
-        if self.end_of(hart) < count {
+        if hart.number() >= self.harts() || self.end_of(hart) < count {
             return Ok(false);
         }
-        let mut place = 0;
-        for number in 0..self.kept.len() {
-            if self.kept[number].machine.count_of(hart) < count {
-                place = number;
-            }
-        }
-        self.restore(place)?;
+        self.near_count(hart, count)?;
         while self.hart(hart).count() < count {
             if !self.forward()? {
                 break;
@@ -84,9 +81,9 @@ impl Timeline {
         end: u64,
     ) -> Result<Option<(u64, usize)>, ReplayFault> {
         let mut last = None;
-        while self.now.moment < end {
+        while self.now() < end {
             if let Some(number) = self.hit(points) {
-                last = Some((self.now.moment, number));
+                last = Some((self.now(), number));
             }
             if !self.forward()? {
                 break;
@@ -97,11 +94,10 @@ impl Timeline {
 
     /// Goes back to the last moment whose step is at a breakpoint or is watched, or to the beginning.
     pub fn back_until(&mut self, points: &[Point]) -> Result<Stop, ReplayFault> {
-        let mut end = self.now.moment;
+        let mut end = self.now();
         while end > 0 {
-            let place = nearest(&self.kept, end - 1);
-            self.restore(place)?;
-            let begin = self.now.moment;
+            self.near(end - 1)?;
+            let begin = self.now();
             if let Some((moment, number)) = self.last_hit(points, end)? {
                 self.go_to(moment)?;
                 return Ok(Stop::At(number));
