@@ -11,7 +11,7 @@ use std::result::Result;
 
 /// Adds a word that is another one than before.
 fn add_changed(text: &mut Vec<u8>, name: &[u8], old: u32, new: u32) -> Result<(), Memory>
-    requires { length name.now ≤ 16 }
+    requires { length name.now ≤ 24 }
     ensures { OnOk result (text.new.items ≡ text.old.items ++ changed name.now old new) }
 {
     if new == old {
@@ -49,7 +49,7 @@ fn add_registers(text: &mut Vec<u8>, number: u8, olds: &[u32], news: &[u32]) -> 
 /// The name of a CSR, by its place among the words of CSRs.
 fn name_of(place: u8) -> &'static [u8]
     ensures name { result.now ≡ csr_name place }
-    ensures short { length result.now ≤ 16 }
+    ensures short { length result.now ≤ 24 }
 {
     match place {
         0 => b"mstatus",

@@ -10,7 +10,7 @@ use std::result::Result;
 
 /// Adds a name and a word, each behind a space.
 pub(crate) fn add_word(text: &mut Vec<u8>, name: &[u8], word: u32) -> Result<(), Memory>
-    requires { length name.now ≤ 16 }
+    requires { length name.now ≤ 24 }
     ensures { OnOk result (text.new.items ≡ text.old.items ++ named name.now word) }
 {
     let mut added = LineBuffer::new();
@@ -24,7 +24,7 @@ pub(crate) fn add_word(text: &mut Vec<u8>, name: &[u8], word: u32) -> Result<(),
 
 /// Adds a name and a number, each behind a space.
 pub(crate) fn add_number(text: &mut Vec<u8>, name: &[u8], number: u64) -> Result<(), Memory>
-    requires { length name.now ≤ 16 }
+    requires { length name.now ≤ 24 }
     ensures { OnOk result (text.new.items ≡ text.old.items ++ numbered name.now number) }
 {
     let mut added = LineBuffer::new();
@@ -66,7 +66,7 @@ pub(crate) fn add_bytes(
     name: &[u8],
     bytes: Option<(u32, u32)>,
 ) -> Result<(), Memory>
-    requires { length name.now ≤ 16 }
+    requires { length name.now ≤ 24 }
     ensures { OnOk result (text.new.items ≡ text.old.items ++ bytes_text name.now bytes) }
 {
     let Some((address, number)) = bytes else {
@@ -86,7 +86,7 @@ pub(crate) fn add_some_word(
     name: &[u8],
     word: Option<u32>,
 ) -> Result<(), Memory>
-    requires { length name.now ≤ 16 }
+    requires { length name.now ≤ 24 }
     ensures { OnOk result (text.new.items ≡ text.old.items ++ some_named name.now word) }
 {
     match word {

@@ -1,0 +1,159 @@
+//! A session: what is asked, and what is answered.
+
+use crate::commands::{Command, Way, read_command};
+use crate::memory::memory_text;
+use crate::numbers::read_thread;
+use crate::points::{drop_point, put_point};
+use crate::registers::{register_text, registers_text};
+use crate::runs::{go, hart_at};
+use crate::stops::{Reason, stop_text};
+use ft_types::{Hart, Memory};
+use hart_replay::ReplayFault;
+use moments::{Point, Timeline};
+use std::alloc::Global;
+
+/// A session over a timeline.
+#[derive(Drop)]
+pub struct Session {
+    pub(crate) line: Timeline,
+    /// The hart of which more is asked.
+    pub(crate) shown: Hart,
+    /// The hart whose steps are taken.
+    led: Hart,
+    points: Vec<Point>,
+}
+
+/// What is answered.
+#[derive(Drop)]
+pub enum Answer {
+    /// The packet that says this.
+    Says(Vec<u8>),
+    /// That packet, and the session is over.
+    SaysLast(Vec<u8>),
+    /// Nothing, and the session is over.
+    Over,
+}
+
+/// The past is not changed.
+const PAST: &[u8] = b"E01";
+
+/// There is no such thing.
+const WRONG: &[u8] = b"E02";
+
+/// The log leads nowhere from here.
+const NOWHERE: &[u8] = b"E03";
+
+/// What was wanted, where there is such a thing.
+fn or_wrong(alloc: Global, text: Option<Vec<u8>>) -> Result<Vec<u8>, Memory> {
+    match text {
+        Some(text) => Ok(text),
+        None => Ok(WRONG.to_vec(alloc)?),
+    }
+}
+
+/// `OK`, or that it is wrong.
+fn told(alloc: Global, is_right: bool) -> Result<Vec<u8>, Memory> {
+    Ok(if is_right { b"OK" } else { WRONG }.to_vec(alloc)?)
+}
+
+impl Session {
+    /// A session that stands where the timeline does.
+    pub fn begin(alloc: Global, line: Timeline) -> Session {
+        Session {
+            line,
+            shown: Hart::new(0),
+            led: Hart::new(0),
+            points: Vec::new(alloc),
+        }
+    }
+
+    /// The timeline.
+    pub fn line(&self) -> &Timeline {
+        &self.line
+    }
+
+    /// Chooses a hart for what more is asked, or for what is led. Every thread, and any, leave it as it was.
+    fn choose(&mut self, what: &[u8]) -> bool {
+        let (kind, thread) = match what {
+            [kind, thread @ ..] => (*kind, thread),
+            [] => return false,
+        };
+        let is_any = thread == b"0" || thread == b"-1";
+        match read_thread(thread, self.line.harts()) {
+            None => is_any,
+            Some(hart) if kind == b'g' => {
+                self.shown = hart;
+                true
+            }
+            Some(hart) => {
+                self.led = hart;
+                kind == b'c'
+            }
+        }
+    }
+
+    /// Goes a way, and says why it ends.
+    fn go(&mut self, alloc: Global, way: Way, thread: &[u8]) -> Result<Vec<u8>, ReplayFault> {
+        let hart = read_thread(thread, self.line.harts()).unwrap_or(self.led);
+        let arrival = go(&mut self.line, &self.points, way, hart)?;
+        self.shown = arrival.hart;
+        self.led = arrival.hart;
+        Ok(stop_text(alloc, arrival.hart, arrival.reason)?)
+    }
+
+    /// What a packet is answered that shows the machine.
+    fn show(&self, alloc: Global, command: &Command<'_>) -> Result<Vec<u8>, Memory> {
+        let Some(hart) = hart_at(&self.line, self.shown) else {
+            return Ok(WRONG.to_vec(alloc)?);
+        };
+        match command {
+            Command::Why => stop_text(alloc, self.shown, Reason::Led),
+            Command::Registers => registers_text(alloc, hart),
+            Command::Register(number) => or_wrong(alloc, register_text(alloc, hart, *number)?),
+            Command::Memory(range) => or_wrong(alloc, memory_text(alloc, &self.line, *range)?),
+            _ => Ok(WRONG.to_vec(alloc)?),
+        }
+    }
+
+    /// What a packet is answered that is about points or threads.
+    fn note(&mut self, alloc: Global, command: &Command<'_>) -> Result<Vec<u8>, Memory> {
+        let harts = self.line.harts();
+        let is_right = match command {
+            Command::Choose(what) => self.choose(what),
+            Command::IsThere(number) => read_thread(number, harts).is_some(),
+            Command::Put(point) => put_point(&mut self.points, *point)?,
+            Command::Drop(point) => {
+                drop_point(&mut self.points, *point);
+                true
+            }
+            _ => false,
+        };
+        told(alloc, is_right)
+    }
+
+    /// What the command is answered.
+    fn obey(&mut self, alloc: Global, command: &Command<'_>) -> Result<Answer, ReplayFault> {
+        let text = match command {
+            Command::Kill => return Ok(Answer::Over),
+            Command::Detach => return Ok(Answer::SaysLast(told(alloc, true)?)),
+            Command::Go(way, thread) => self.go(alloc, *way, thread)?,
+            Command::Query(packet) => self.ask(alloc, packet)?,
+            Command::Change => PAST.to_vec(alloc)?,
+            Command::Unknown => Vec::new(alloc),
+            Command::Why | Command::Registers | Command::Register(_) | Command::Memory(_) => {
+                self.show(alloc, command)?
+            }
+            _ => self.note(alloc, command)?,
+        };
+        Ok(Answer::Says(text))
+    }
+
+    /// What the packet that says these bytes is answered.
+    pub fn answer(&mut self, alloc: Global, packet: &[u8]) -> Result<Answer, Memory> {
+        match self.obey(alloc, &read_command(packet)) {
+            Ok(answer) => Ok(answer),
+            Err(ReplayFault::Memory) => Err(Memory),
+            Err(_) => Ok(Answer::Says(NOWHERE.to_vec(alloc)?)),
+        }
+    }
+}
