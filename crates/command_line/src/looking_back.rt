@@ -17,6 +17,9 @@ fn machine_of(
     store: &Store,
     place: Place,
 ) -> Result<Machine, CommandFault> {
+    if place.hart.number() >= image.harts() {
+        return Err(CommandFault::NoStep(place));
+    }
     let plan = planned(alloc, store)?;
     match machine_at(alloc, image, &plan, place.hart, place.count) {
         Ok(Some(machine)) => Ok(machine),

@@ -1,5 +1,5 @@
 -- What a step changes in its hart.
-use Rattle.std.specs.Prelude.{ℕ, ◌+◌, ◌*◌, ◌/◌, ◌%◌, ◌==◌, List, [], ◌∷◌, ◌++◌, Bool, cond, ◌&&◌, codes, decimal}
+use Rattle.std.specs.Prelude.{ℕ, ◌+◌, ◌*◌, ◌/◌, ◌%◌, ◌==◌, List, [], ◌∷◌, ◌++◌, Bool, cond, if◌then◌else◌, ◌&&◌, codes, decimal}
 use Rattle.rv32_hart.specs.Hart.{Hart, mstatus}
 use Rattle.step_lines.specs.Parts.{named, numbered}
 
@@ -12,13 +12,9 @@ register_name i = codes "x" ++ decimal i
 
 -- by its place among the words of CSRs
 abbrev pub csr_name : ℕ → List ℕ
-csr_name 0 = codes "mstatus"
-csr_name 1 = codes "mie"
-csr_name 2 = codes "mip"
-csr_name 3 = codes "mtvec"
-csr_name 4 = codes "mscratch"
-csr_name 5 = codes "mepc"
-csr_name _ = codes "mcause"
+csr_name i =
+    if i == 0 then codes "mstatus" else if i == 1 then codes "mie" else if i == 2 then codes "mip" else if i == 3 then codes "mtvec"
+    else if i == 4 then codes "mscratch" else if i == 5 then codes "mepc" else codes "mcause"
 
 -- the words that are others than before, by their names, which are numbered from k on
 abbrev pub changed_texts : (ℕ → List ℕ) → ℕ → List ℕ → List ℕ → List ℕ
