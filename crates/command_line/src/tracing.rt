@@ -141,7 +141,12 @@ fn trace_step<W: Sink>(
 }
 
 /// Takes the step that comes next, and writes its line where it is the hart's. False where there is none.
-fn trace_next<W: Sink>(line: &mut Timeline, hart: Hart, out: &mut W) -> Result<bool, CommandFault> {
+fn trace_next<W: Sink>(
+    alloc: Global,
+    line: &mut Timeline,
+    hart: Hart,
+    out: &mut W,
+) -> Result<bool, CommandFault> {
     if line.next() == Some(hart) {
         trace_step(alloc, line, hart, out)?;
         return Ok(true);
