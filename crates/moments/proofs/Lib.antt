@@ -2,3 +2,4 @@ pub mod Sums
 pub mod Moves
 pub mod Standings
 pub mod Parts
+pub mod Choosing

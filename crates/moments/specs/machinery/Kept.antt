@@ -9,11 +9,15 @@ use Rattle.hart_replay.specs.declared.plans.PlannedLeg.{PlannedLeg}
 use Rattle.hart_replay.specs.Plans.{IsPlan}
 use Rattle.hart_replay.specs.Leading.{AreAtEnds}
 use Rattle.log_audit.specs.machinery.Covered.{IsQuietTo}
-use Rattle.moments.specs.Line.{Standing, standing_at, Leads}
+use Rattle.moments.specs.Line.{Standing, standing_at, Leads, LineView}
 
 -- up to its stop each hart has neither edges nor inputs
 abbrev pub AreQuiet : PlannedLeg → MachineState → List ℕ → Type 0
 AreQuiet leg m stops = (hart : ℕ) → hart < length m.harts → IsQuietTo leg hart (counts_of m hart) (slice_index stops hart)
+
+-- so it is in the leg in which the line stands
+abbrev pub QuietAt : List PlannedLeg → Standing → List ℕ → Type 0
+QuietAt legs t stops = (length stops ≡ HART_ROW) × ((leg : PlannedLeg) → slice_get legs t.place ≡ Some leg → AreQuiet leg t.machine stops)
 
 -- the leg is not one that was led to its end with another behind it
 abbrev pub IsTurned : List PlannedLeg → Standing → Type 0
@@ -33,5 +37,8 @@ pub record IsTimeline (guest : GuestParts) (legs : List PlannedLeg) (first now :
   pub leads : Leads legs first now
   pub kept : AllByRecursion (Leads legs first) kept
   pub turned : IsTurned legs now
-  pub rows : length stops ≡ HART_ROW
-  pub quiet : (leg : PlannedLeg) → slice_get legs now.place ≡ Some leg → AreQuiet leg now.machine stops
+  pub quiet : QuietAt legs now stops
+
+-- the line leads there
+abbrev pub OnLine : LineView → Standing → Type 0
+OnLine t there = Leads t.legs (standing_at t.start) there
