@@ -3,3 +3,7 @@ pub mod Moves
 pub mod Standings
 pub mod Parts
 pub mod Choosing
+pub mod Stepping
+pub mod Turning
+pub mod Passing
+pub mod Keeping

@@ -328,6 +328,7 @@ impl Timeline {
     pub fn forward(&mut self) -> Result<bool, ReplayFault>
         ensures went { IfOk result (λ went. went ≡ true → HasGoneOn self.old self.new 1) }
         ensures end { IfOk result (λ went. went ≡ false → (self.new ≡ self.old) × IsAtEnd self.old) }
+        ensures all { IfOk result (λ went. went ≡ false → self.old.now.moment ≡ steps_of_legs self.old.legs) }
         ensures kept { OnErr result (self.new ≡ self.old) }
         ensures fault { IfErr result (λ f. InLeg self.old (λ leg. ComesShort self.old.now.machine leg.ends f)) }
         ensures stuck { IfErr result (λ f. f ≢ fault.Memory → InLeg self.old (λ leg. NoneMayGo leg self.old.now.machine)) }
@@ -351,6 +352,7 @@ impl Timeline {
     /// False, where the line is at its end; else why nobody can go on.
     fn end(&self) -> Result<bool, ReplayFault>
         ensures end { IfOk result (λ went. (went ≡ false) × IsAtEnd self.now) }
+        ensures all { IfOk result (λ went. self.now.now.moment ≡ steps_of_legs self.now.legs) }
         ensures fault { IfErr result (λ f. InLeg self.now (λ leg. ComesShort self.now.now.machine leg.ends f)) }
         ensures memory { IfErr result (λ f. f ≢ fault.Memory) }
     {

@@ -23,9 +23,7 @@ impl Timeline {
     {
         self.near(moment)?;
         while self.now() < moment {
-            if !self.forward()? {
-                break;
-            }
+            self.forward()?;
         }
         Ok(())
     }
@@ -44,9 +42,7 @@ impl Timeline {
         }
         self.near_count(hart, count)?;
         while self.hart(hart).count() < count {
-            if !self.forward()? {
-                break;
-            }
+            self.forward()?;
         }
         Ok(true)
     }
@@ -112,9 +108,7 @@ impl Timeline {
             if let Some(number) = self.hit(points) {
                 last = Some((self.now(), number));
             }
-            if !self.forward()? {
-                break;
-            }
+            self.forward()?;
         }
         Ok(last)
     }

@@ -1,6 +1,6 @@
 //! Steps of a leg, and from leg to leg.
 
-ghost use Rattle.std.specs.Prelude.{◌≡◌, ◌<◌, ◌+◌, ◌^◌, ◌-◌, length, replicate, slice_get, Some, OnOk, OnErr};
+ghost use Rattle.std.specs.Prelude.{◌≡◌, ◌<◌, ◌≤◌, ◌+◌, ◌^◌, ◌-◌, length, replicate, slice_get, Some, OnOk, OnErr};
 ghost use Rattle.ft_types.specs.declared.names.TheConstants.{HART_ROW};
 ghost use Rattle.hart_replay.specs.declared.plans.PlannedLeg.{PlannedLeg as planned_leg};
 ghost use Rattle.moments.specs.Line.{Standing, Leads, IsNext, Steps};
@@ -24,7 +24,9 @@ pub(crate) fn no_stops() -> Stops
 /// Goes on to the leg in which the next step is, where the present one was led to its end.
 pub(crate) fn turn(legs: &[PlannedLeg], now: &mut Snapshot, stops: &mut Stops)
     requires quiet { QuietAt legs.now (standing_of now.old) stops.old }
+    requires place { now.old.leg ≤ length legs.now - 1 }
     ensures leads { (s : Standing) → Leads legs.now s (standing_of now.old) → Leads legs.now s (standing_of now.new) }
+    ensures place { now.new.leg ≤ length legs.now - 1 }
     ensures moment { now.new.moment ≡ now.old.moment }
     ensures machine { machine_of now.new.machine ≡ machine_of now.old.machine }
     ensures turned { IsTurned legs.now (standing_of now.new) }

@@ -1,5 +1,5 @@
 -- What a timeline keeps: private words.
-use Rattle.std.specs.Prelude.{ℕ, ◌≡◌, ◌+◌, ◌<◌, ◌≤◌, List, All, length, slice_get, slice_index, Some, None, Option}
+use Rattle.std.specs.Prelude.{ℕ, ◌≡◌, ◌+◌, ◌-◌, ◌<◌, ◌≤◌, List, All, length, slice_get, slice_index, Some, None, Option}
 use Rattle.std.specs.List.{AllByRecursion}
 use Rattle.ft_types.specs.Guests.{GuestParts}
 use Rattle.ft_types.specs.declared.names.TheConstants.{HART_LIMIT, HART_ROW}
@@ -31,14 +31,19 @@ pub record IsBegun (guest : GuestParts) (legs : List PlannedLeg) (first : Standi
   pub boot : (hart : ℕ) → counts_of first.machine hart ≡ 0
   pub is : first ≡ standing_at first.machine
 
+-- the line leads there, and to no place behind the last leg
+pub record Stands (legs : List PlannedLeg) (first t : Standing) : Type 0 where
+  pub leads : Leads legs first t
+  pub place : t.place ≤ length legs - 1
+
 -- what every timeline keeps
 pub record IsTimeline (guest : GuestParts) (legs : List PlannedLeg) (first now : Standing) (kept : List Standing) (stops : List ℕ) : Type 0 where
   pub begun : IsBegun guest legs first
-  pub leads : Leads legs first now
-  pub kept : AllByRecursion (Leads legs first) kept
+  pub stands : Stands legs first now
+  pub kept : AllByRecursion (Stands legs first) kept
   pub turned : IsTurned legs now
   pub quiet : QuietAt legs now stops
 
--- the line leads there
+-- a timeline's line leads there
 abbrev pub OnLine : LineView → Standing → Type 0
-OnLine t there = Leads t.legs (standing_at t.start) there
+OnLine t there = Stands t.legs (standing_at t.start) there
