@@ -18,6 +18,7 @@ pub(crate) enum Way {
 }
 
 /// What a packet asks for.
+#[derive(Clone, Copy)]
 pub(crate) enum Command<'a> {
     /// `?`: why it stands.
     Why,
@@ -36,9 +37,9 @@ pub(crate) enum Command<'a> {
     /// A way to go, and the thread that goes it, where the packet names one.
     Go(Way, &'a [u8]),
     /// `Z`: the point is put.
-    Put(Point),
+    Insert(Point),
     /// `z`: the point is taken away.
-    Drop(Point),
+    Remove(Point),
     /// `q..`, `Q..`, `v..`.
     Query(&'a [u8]),
     /// `D`.
@@ -79,11 +80,11 @@ fn read_way(packet: &[u8]) -> Command<'_> {
 fn read_points(packet: &[u8]) -> Command<'_> {
     match packet {
         [b'Z', rest @ ..] => match read_point(rest) {
-            Some(point) => Command::Put(point),
+            Some(point) => Command::Insert(point),
             None => Command::Wrong,
         },
         [b'z', rest @ ..] => match read_point(rest) {
-            Some(point) => Command::Drop(point),
+            Some(point) => Command::Remove(point),
             None => Command::Wrong,
         },
         _ => Command::Unknown,

@@ -10,6 +10,7 @@ use moments::{Point, Stop, Timeline};
 use rv32_hart::HartState;
 
 /// Where a way has led: to a step of this hart, and why it ends there.
+#[derive(Clone, Copy)]
 pub(crate) struct Arrival {
     pub(crate) hart: Hart,
     pub(crate) reason: Reason,

@@ -121,8 +121,8 @@ impl Session {
         let is_right = match command {
             Command::Choose(what) => self.choose(what),
             Command::IsThere(number) => read_thread(number, harts).is_some(),
-            Command::Put(point) => put_point(&mut self.points, *point)?,
-            Command::Drop(point) => {
+            Command::Insert(point) => put_point(&mut self.points, *point)?,
+            Command::Remove(point) => {
                 drop_point(&mut self.points, *point);
                 true
             }
