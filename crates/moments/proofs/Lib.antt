@@ -1,0 +1,4 @@
+pub mod Sums
+pub mod Moves
+pub mod Standings
+pub mod Parts

@@ -1,0 +1,3 @@
+pub mod Parts
+pub mod Machines
+pub mod Kept

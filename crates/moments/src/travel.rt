@@ -1,0 +1,110 @@
+//! Moments that are gone to.
+
+ghost use Rattle.std.specs.Prelude.{◌≡◌, ◌<◌, ◌≤◌, ◌+◌, ℕ, IfOk, OnOk};
+ghost use Rattle.moments.specs.Line.{LineView, steps_of};
+
+use crate::points::{Point, Stop, first_break, first_watch};
+use crate::timeline::Timeline;
+use ft_types::{Count, Hart};
+use hart_replay::ReplayFault;
+use std::option::Option;
+use std::result::Result;
+
+impl Timeline {
+    /// Goes to a moment.
+    pub fn go_to(&mut self, moment: u64) -> Result<(), ReplayFault>
+        requires { moment ≤ steps_of self.old.legs }
+        ensures line { self.new ≡ record self.old { now = self.new.now } }
+        ensures there { OnOk result (self.new.now.moment ≡ moment) }
+    {
+        self.near(moment)?;
+        while self.now() < moment {
+            if !self.forward()? {
+                break;
+            }
+        }
+        Ok(())
+    }
+
+    /// Goes to the first moment at which the hart has so many steps. False, and nothing is changed, where the line has none.
+    pub fn go_to_count(&mut self, hart: Hart, count: Count) -> Result<bool, ReplayFault> {
+        if hart.number() >= self.harts() || self.end_of(hart) < count {
+            return Ok(false);
+        }
+        self.near_count(hart, count)?;
+        while self.hart(hart).count() < count {
+            if !self.forward()? {
+                break;
+            }
+        }
+        Ok(true)
+    }
+
+    /// The first point that is where the step that comes next is.
+    fn broken(&self, points: &[Point]) -> Option<usize> {
+        first_break(points, self.hart(self.next()?).pc())
+    }
+
+    /// The first point that watches what the step that comes next uses.
+    fn watched(&self, points: &[Point]) -> Option<usize> {
+        first_watch(points, self.access())
+    }
+
+    /// Goes on to the first moment at which a point holds, or to the end.
+    pub fn until(&mut self, points: &[Point]) -> Result<Stop, ReplayFault> {
+        loop {
+            let watched = self.watched(points);
+            if !self.forward()? {
+                return Ok(Stop::End);
+            }
+            if let Some(number) = watched {
+                return Ok(Stop::At(number));
+            }
+            if let Some(number) = self.broken(points) {
+                return Ok(Stop::At(number));
+            }
+        }
+    }
+
+    /// The first point at which the step that comes next is, or that watches it.
+    fn hit(&self, points: &[Point]) -> Option<usize> {
+        match self.broken(points) {
+            Some(number) => Some(number),
+            None => self.watched(points),
+        }
+    }
+
+    /// Goes on to a moment. Of the moments on the way the last one whose step hits a point, and which point.
+    fn last_hit(
+        &mut self,
+        points: &[Point],
+        end: u64,
+    ) -> Result<Option<(u64, usize)>, ReplayFault> {
+        let mut last = None;
+        while self.now() < end {
+            if let Some(number) = self.hit(points) {
+                last = Some((self.now(), number));
+            }
+            if !self.forward()? {
+                break;
+            }
+        }
+        Ok(last)
+    }
+
+    /// Goes back to the last moment whose step is at a breakpoint or is watched, or to the beginning.
+    pub fn back_until(&mut self, points: &[Point]) -> Result<Stop, ReplayFault> {
+        let mut end = self.now();
+        while end > 0 {
+            self.near(end - 1)?;
+            let begin = self.now();
+            if let Some((moment, number)) = self.last_hit(points, end)? {
+                self.go_to(moment)?;
+                return Ok(Stop::At(number));
+            }
+            end = begin;
+        }
+        self.go_to(0)?;
+        Ok(Stop::Begin)
+    }
+}
