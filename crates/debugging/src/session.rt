@@ -11,6 +11,7 @@ use ft_types::{Hart, Memory};
 use hart_replay::ReplayFault;
 use moments::{Point, Timeline};
 use std::alloc::Global;
+use std::marker::Model;
 
 /// A session over a timeline.
 #[derive(Drop)]
@@ -56,9 +57,19 @@ fn told(alloc: Global, is_right: bool) -> Result<Vec<u8>, Memory> {
     Ok(if is_right { b"OK" } else { WRONG }.to_vec(alloc)?)
 }
 
+impl Model for Session {
+    ghost use Rattle.debugging.specs.Sessions.{SessionView};
+
+    ghost Value = { SessionView };
+
+    ghost view = { λ s. record { line = s.line; shown = s.shown; led = s.led; points = s.points.items } };
+}
+
 impl Session {
     /// A session that stands where the timeline does.
-    pub fn begin(alloc: Global, line: Timeline) -> Session {
+    pub fn begin(alloc: Global, line: Timeline) -> Session
+        ensures { result.line ≡ line }
+    {
         Session {
             line,
             shown: Hart::new(0),
@@ -68,7 +79,9 @@ impl Session {
     }
 
     /// The timeline.
-    pub fn line(&self) -> &Timeline {
+    pub fn line(&self) -> &Timeline
+        ensures { result.now ≡ self.now.line }
+    {
         &self.line
     }
 
