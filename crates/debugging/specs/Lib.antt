@@ -1,3 +1,4 @@
 pub mod Shown
 pub mod Asked
 pub mod Sessions
+pub mod Answers
