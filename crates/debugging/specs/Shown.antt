@@ -1,5 +1,5 @@
 -- What packets show of a hart.
-use Rattle.std.specs.Prelude.{ℕ, ◌-◌, ◌==◌, nat_lt, if◌then◌else◌, List, [], ◌∷◌, ◌++◌, drop, slice_index, Option, None, Some}
+use Rattle.std.specs.Prelude.{ℕ, ◌-◌, ◌==◌, nat_lt, if◌then◌else◌, List, [], ◌∷◌, ◌++◌, drop, slice_index, Option, None, Some, codes}
 use Rattle.std.specs.List.{flat_map}
 use Rattle.std.specs.Int.{to_le_bytes, w32}
 use Rattle.hex.specs.Hex.{encode_lower}
@@ -25,3 +25,8 @@ register_at h n =
     else if n == 32 then Some h.pc
     else if nat_lt n 65 then None
     else read_csr h (n - 65)
+
+-- what was wanted, or `E02` where there is none
+abbrev pub or_wrong : Option (List ℕ) → List ℕ
+or_wrong None = codes "E02"
+or_wrong (Some text) = text

@@ -1,5 +1,10 @@
 //! What packets ask for.
 
+ghost use Rattle.std.specs.Prelude.{◌≡◌, ℕ, ◌∷◌, codes};
+ghost use Rattle.debugging.specs.declared.commands.Command.TheVariants as Command;
+ghost use Rattle.debugging.specs.declared.commands.Show.TheVariants as Show;
+ghost use Rattle.debugging.specs.Asked.{IsHex, AsksForAnother, AsksForRegister, AsksForMemory};
+
 use crate::numbers::{cut, read_hex, read_range};
 use crate::points::read_point;
 use moments::{Bytes, Point};
@@ -17,8 +22,9 @@ pub(crate) enum Way {
     ContinueBack,
 }
 
-/// What a packet asks for.
-pub(crate) enum Command<'a> {
+/// What is shown of the machine.
+#[derive(Clone, Copy)]
+pub(crate) enum Show {
     /// `?`: why it stands.
     Why,
     /// `g`: x0 to x31 and pc.
@@ -27,6 +33,13 @@ pub(crate) enum Command<'a> {
     Register(u32),
     /// `m A,L`.
     Memory(Bytes),
+}
+
+/// What a packet asks for.
+#[derive(Clone, Copy)]
+pub(crate) enum Command<'a> {
+    /// That something is shown.
+    Show(Show),
     /// `G`, `P`, `M`, `X`, and whatever else would change the past.
     Change,
     /// `H`: the thread of which more is asked, or that is led, by its first byte and its number.
@@ -36,9 +49,9 @@ pub(crate) enum Command<'a> {
     /// A way to go, and the thread that goes it, where the packet names one.
     Go(Way, &'a [u8]),
     /// `Z`: the point is put.
-    Put(Point),
+    Insert(Point),
     /// `z`: the point is taken away.
-    Drop(Point),
+    Remove(Point),
     /// `q..`, `Q..`, `v..`.
     Query(&'a [u8]),
     /// `D`.
@@ -79,11 +92,11 @@ fn read_way(packet: &[u8]) -> Command<'_> {
 fn read_points(packet: &[u8]) -> Command<'_> {
     match packet {
         [b'Z', rest @ ..] => match read_point(rest) {
-            Some(point) => Command::Put(point),
+            Some(point) => Command::Insert(point),
             None => Command::Wrong,
         },
         [b'z', rest @ ..] => match read_point(rest) {
-            Some(point) => Command::Drop(point),
+            Some(point) => Command::Remove(point),
             None => Command::Wrong,
         },
         _ => Command::Unknown,
@@ -91,26 +104,35 @@ fn read_points(packet: &[u8]) -> Command<'_> {
 }
 
 /// Of a packet that asks for memory.
-fn read_memory(range: &[u8]) -> Command<'_> {
+fn read_memory(range: &[u8]) -> Command<'_>
+    ensures { (address many : ℕ) → AsksForMemory (109 ∷ range.now) address many → result ≡ Command.Show (Show.Memory (record { first = address; length = many })) }
+{
     match read_range(range) {
-        Some(bytes) => Command::Memory(bytes),
+        Some(bytes) => Command::Show(Show::Memory(bytes)),
         None => Command::Wrong,
     }
 }
 
 /// Of a packet that asks for a register.
-fn read_register(number: &[u8]) -> Command<'_> {
+fn read_register(number: &[u8]) -> Command<'_>
+    ensures { (n : ℕ) → IsHex number.now n → result ≡ Command.Show (Show.Register n) }
+{
     match read_hex(number) {
-        Some(number) => Command::Register(number),
+        Some(number) => Command::Show(Show::Register(number)),
         None => Command::Wrong,
     }
 }
 
 /// What the packet asks for.
-pub(crate) fn read_command(packet: &[u8]) -> Command<'_> {
+pub(crate) fn read_command(packet: &[u8]) -> Command<'_>
+    ensures registers { packet.now ≡ codes "g" → result ≡ Command.Show Show.Registers }
+    ensures register { (n : ℕ) → AsksForRegister packet.now n → result ≡ Command.Show (Show.Register n) }
+    ensures memory { (address many : ℕ) → AsksForMemory packet.now address many → result ≡ Command.Show (Show.Memory (record { first = address; length = many })) }
+    ensures change { AsksForAnother packet.now → result ≡ Command.Change }
+{
     match packet {
-        [b'?'] => Command::Why,
-        [b'g'] => Command::Registers,
+        [b'?'] => Command::Show(Show::Why),
+        [b'g'] => Command::Show(Show::Registers),
         [b'p', number @ ..] => read_register(number),
         [b'm', range @ ..] => read_memory(range),
         [b'G' | b'P' | b'M' | b'X', ..] => Command::Change,

@@ -1,5 +1,9 @@
 //! Commands of gdb's `monitor`.
 
+ghost use Rattle.std.specs.Prelude.{◌≡◌, ◌≤◌};
+ghost use Rattle.moments.specs.Line.{steps_of};
+ghost use Rattle.debugging.specs.Sessions.{IsOfLine};
+
 use crate::numbers::{cut, read_hex};
 use crate::queries::{hex_text, put_hart};
 use crate::runs::{count_of, hart_at, last_touch};
@@ -74,7 +78,9 @@ fn read_watched(text: &[u8]) -> Option<Bytes> {
 }
 
 /// The step at which the hart puts out the output with this number: the line stands anywhere then.
-fn output_step(line: &mut Timeline, hart: Hart, number: u64) -> Result<Option<Count>, ReplayFault> {
+fn output_step(line: &mut Timeline, hart: Hart, number: u64) -> Result<Option<Count>, ReplayFault>
+    ensures line { IsOfLine line.old line.new }
+{
     line.go_to(line.last())?;
     let Some(state) = hart_at(line, hart) else {
         return Ok(None);
@@ -114,7 +120,9 @@ fn put_edges(text: &mut Vec<u8>, line: &Timeline, hart: Hart) -> Result<(), Memo
 }
 
 /// The step that touched the word last, before where the line stands. It stands there then.
-fn touch_before(line: &mut Timeline, word: Bytes) -> Result<Option<Touch>, ReplayFault> {
+fn touch_before(line: &mut Timeline, word: Bytes) -> Result<Option<Touch>, ReplayFault>
+    ensures line { IsOfLine line.old line.new }
+{
     let Some((hart, count)) = last_touch(line, Point::Watch(Watched::Access, word))? else {
         return Ok(None);
     };
@@ -126,7 +134,9 @@ fn touch_before(line: &mut Timeline, word: Bytes) -> Result<Option<Touch>, Repla
 }
 
 /// The last two steps of two harts that touched the word, of which one wrote it, the later one first.
-fn last_race(line: &mut Timeline, word: Bytes) -> Result<Option<(Touch, Touch)>, ReplayFault> {
+fn last_race(line: &mut Timeline, word: Bytes) -> Result<Option<(Touch, Touch)>, ReplayFault>
+    ensures line { IsOfLine line.old line.new }
+{
     let Some(mut later) = touch_before(line, word)? else {
         return Ok(None);
     };
@@ -160,7 +170,10 @@ impl Session {
         hart: Hart,
         count: Option<Count>,
         now: u64,
-    ) -> Result<(), ReplayFault> {
+    ) -> Result<(), ReplayFault>
+        requires { now ≤ steps_of self.old.line.legs }
+        ensures line { IsOfLine self.old.line self.new.line }
+    {
         let is_there = match count {
             Some(count) => self.line.go_to_count(hart, count)?,
             None => false,
@@ -174,7 +187,9 @@ impl Session {
     }
 
     /// Says who wrote the word last.
-    fn tell_writer(&mut self, text: &mut Vec<u8>, word: Bytes) -> Result<(), ReplayFault> {
+    fn tell_writer(&mut self, text: &mut Vec<u8>, word: Bytes) -> Result<(), ReplayFault>
+        ensures line { IsOfLine self.old.line self.new.line }
+    {
         let now = self.line.now();
         let found = last_touch(&mut self.line, Point::Watch(Watched::Write, word))?;
         self.line.go_to(now)?;
@@ -185,7 +200,9 @@ impl Session {
     }
 
     /// Says which two steps of two harts touched the word last, of which one wrote it.
-    fn tell_race(&mut self, text: &mut Vec<u8>, word: Bytes) -> Result<(), ReplayFault> {
+    fn tell_race(&mut self, text: &mut Vec<u8>, word: Bytes) -> Result<(), ReplayFault>
+        ensures line { IsOfLine self.old.line self.new.line }
+    {
         let now = self.line.now();
         let found = last_race(&mut self.line, word)?;
         self.line.go_to(now)?;
@@ -197,12 +214,9 @@ impl Session {
     }
 
     /// Does what a command asks that has words behind its name.
-    fn do_with(
-        &mut self,
-        text: &mut Vec<u8>,
-        name: &[u8],
-        words: &[u8],
-    ) -> Result<(), ReplayFault> {
+    fn do_with(&mut self, text: &mut Vec<u8>, name: &[u8], words: &[u8]) -> Result<(), ReplayFault>
+        ensures line { IsOfLine self.old.line self.new.line }
+    {
         let now = self.line.now();
         match (
             name,
@@ -225,7 +239,9 @@ impl Session {
     }
 
     /// What gdb prints for a command, whose text these digits are.
-    pub(crate) fn tell(&mut self, alloc: Global, digits: &[u8]) -> Result<Vec<u8>, ReplayFault> {
+    pub(crate) fn tell(&mut self, alloc: Global, digits: &[u8]) -> Result<Vec<u8>, ReplayFault>
+        ensures line { IsOfLine self.old.line self.new.line }
+    {
         let mut text = Vec::new(alloc);
         match hex::decode(alloc, digits) {
             Ok(command) => self.tell_of(&mut text, &command)?,
@@ -236,7 +252,9 @@ impl Session {
     }
 
     /// Does what the command asks.
-    fn tell_of(&mut self, text: &mut Vec<u8>, command: &[u8]) -> Result<(), ReplayFault> {
+    fn tell_of(&mut self, text: &mut Vec<u8>, command: &[u8]) -> Result<(), ReplayFault>
+        ensures line { IsOfLine self.old.line self.new.line }
+    {
         let (name, words) = cut(command, b' ');
         match name {
             b"where" => Ok(put_place(text, &self.line)?),

@@ -1,32 +1,28 @@
 //! Numbers in packets.
 
-use ft_types::Hart;
+ghost use Rattle.std.specs.Prelude.{◌≡◌, ℕ, ◌++◌, ◌∷◌, List, IfSome, IfNone, Some};
+ghost use Rattle.debugging.specs.Asked.{IsHex, HasNone};
+
+use ft_types::{Hart, read_word};
 use moments::Bytes;
 
-/// The value of a digit to the base 16.
-fn digit_value(byte: u8) -> Option<u32> {
-    match byte {
-        b'0'..=b'9' => Some(u32::from(byte) - 48),
-        b'a'..=b'f' => Some(u32::from(byte) - 87),
-        b'A'..=b'F' => Some(u32::from(byte) - 55),
-        _ => None,
-    }
-}
-
 /// The number that these digits to the base 16 are, one to eight of them.
-pub(crate) fn read_hex(text: &[u8]) -> Option<u32> {
+pub(crate) fn read_hex(text: &[u8]) -> Option<u32>
+    ensures found { IfSome result (λ n. IsHex text.now n) }
+    ensures none { IfNone result ((n : ℕ) → IsHex text.now n → ⊥) }
+{
     if text.is_empty() || text.len() > 8 {
         return None;
     }
-    let mut value: u64 = 0;
-    for byte in text {
-        value = value * 16 % 0x1_0000_0000 + u64::from(digit_value(*byte)?);
-    }
-    u32::try_from(value).ok()
+    let mut digits = *b"00000000";
+    digits[8 - text.len()..].copy_from_slice(text);
+    read_word(&digits)
 }
 
 /// What stands before the first such byte, and behind it. Nothing stands behind it where there is none.
-pub(crate) fn cut(text: &[u8], byte: u8) -> (&[u8], &[u8]) {
+pub(crate) fn cut(text: &[u8], byte: u8) -> (&[u8], &[u8])
+    ensures { (front behind : List ℕ) → HasNone byte front → text.now ≡ front ++ byte ∷ behind → (result.0.now ≡ front) × (result.1.now ≡ behind) }
+{
     match text.iter().position(|other| *other == byte) {
         Some(end) => (&text[..end], &text[end + 1..]),
         None => (text, b""),
@@ -34,7 +30,10 @@ pub(crate) fn cut(text: &[u8], byte: u8) -> (&[u8], &[u8]) {
 }
 
 /// `A,L`: so many bytes from an address on.
-pub(crate) fn read_range(text: &[u8]) -> Option<Bytes> {
+pub(crate) fn read_range(text: &[u8]) -> Option<Bytes>
+    ensures { (first length : List ℕ) (address many : ℕ) → HasNone 44 first → text.now ≡ first ++ 44 ∷ length → IsHex first address → IsHex length many →
+        result ≡ Some (record { first = address; length = many }) }
+{
     let (first, length) = cut(text, b',');
     Some(Bytes {
         first: read_hex(first)?,

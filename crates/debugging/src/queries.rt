@@ -1,5 +1,8 @@
 //! What is asked about the machine and the session.
 
+ghost use Rattle.std.specs.Prelude.{◌≡◌};
+ghost use Rattle.debugging.specs.Sessions.{IsOfLine};
+
 use crate::features::features_text;
 use crate::numbers::read_thread;
 use crate::runs::{count_of, hart_at};
@@ -92,7 +95,9 @@ fn constant(query: &[u8]) -> &'static [u8] {
 
 impl Session {
     /// What the query is answered.
-    pub(crate) fn ask(&mut self, alloc: Global, query: &[u8]) -> Result<Vec<u8>, ReplayFault> {
+    pub(crate) fn ask(&mut self, alloc: Global, query: &[u8]) -> Result<Vec<u8>, ReplayFault>
+        ensures line { IsOfLine self.old.line self.new.line }
+    {
         if let Some(words) = query.strip_prefix(b"qRcmd,") {
             return self.tell(alloc, words);
         }

@@ -1,22 +1,28 @@
 //! Ways through a timeline.
 
-ghost use Rattle.std.specs.Prelude.{◌≡◌, ◌≤◌, IfSome, IfNone, Some, length, slice_get};
+ghost use Rattle.std.specs.Prelude.{◌≡◌, ◌+◌, ◌<◌, ◌≤◌, IfSome, IfNone, IfOk, OnOk, Some, true, false, length, slice_get};
+ghost use Rattle.hart_lease.specs.Runs.{counts_of};
+ghost use Rattle.debugging.specs.Sessions.{IsOfLine, IsFirstWith, IsBeforeStep};
 
 use crate::commands::Way;
 use crate::stops::Reason;
-use ft_types::{Count, Hart};
+use ft_types::{COUNT_LIMIT, Count, Hart};
 use hart_replay::ReplayFault;
 use moments::{Point, Stop, Timeline};
 use rv32_hart::HartState;
 
 /// Where a way has led: to a step of this hart, and why it ends there.
+#[derive(Clone, Copy)]
 pub(crate) struct Arrival {
     pub(crate) hart: Hart,
     pub(crate) reason: Reason,
 }
 
 /// How many steps a hart has taken.
-pub(crate) fn count_of(line: &Timeline, hart: Hart) -> Count {
+pub(crate) fn count_of(line: &Timeline, hart: Hart) -> Count
+    ensures value { result ≡ counts_of line.now.now.machine hart }
+    ensures limit { result < COUNT_LIMIT }
+{
     line.counts().count_of(hart)
 }
 
@@ -32,13 +38,16 @@ pub(crate) fn hart_at(line: &Timeline, hart: Hart) -> Option<&HartState>
     }
 }
 
-/// The hart of the step that comes next; of the last one, where the line is at its end.
+/// The hart of the step that comes next; this one, where none does.
 fn next_hart(line: &Timeline, otherwise: Hart) -> Hart {
     line.next().unwrap_or(otherwise)
 }
 
-/// The hart of the step before.
-fn last_hart(line: &mut Timeline, otherwise: Hart) -> Result<Hart, ReplayFault> {
+/// The hart of the step before; this one, where there was none.
+fn last_hart(line: &mut Timeline, otherwise: Hart) -> Result<Hart, ReplayFault>
+    ensures line { IsOfLine line.old line.new }
+    ensures there { OnOk result (line.new.now.moment ≡ line.old.now.moment) }
+{
     let now = line.now();
     if now == 0 {
         return Ok(otherwise);
@@ -49,64 +58,66 @@ fn last_hart(line: &mut Timeline, otherwise: Hart) -> Result<Hart, ReplayFault> 
     Ok(hart)
 }
 
-/// On to the first moment at which the hart has one step more.
-fn step(line: &mut Timeline, hart: Hart) -> Result<Reason, ReplayFault> {
+/// On to the first moment at which the hart has one step more. Whether there is one.
+pub(crate) fn step(line: &mut Timeline, hart: Hart) -> Result<bool, ReplayFault>
+    ensures line { IsOfLine line.old line.new }
+    ensures led { IfOk result (λ led. led ≡ true → IsFirstWith line.new hart (counts_of line.old.now.machine hart + 1)) }
+    ensures end { IfOk result (λ led. led ≡ false → line.new ≡ line.old) }
+{
     let count = count_of(line, hart);
-    if line.end_of(hart) <= count {
-        return Ok(Reason::End);
-    }
-    for _turn in 0..u64::MAX {
-        if count_of(line, hart) > count {
-            return Ok(Reason::Led);
-        }
-        if !line.forward()? {
-            break;
-        }
-    }
-    Ok(Reason::End)
+    line.go_to_count(hart, count + 1)
 }
 
-/// Back to where the hart's last step comes next.
-fn step_back(line: &mut Timeline, hart: Hart) -> Result<Reason, ReplayFault> {
+/// Back to where the hart's last step comes next. Whether there was one.
+pub(crate) fn step_back(line: &mut Timeline, hart: Hart) -> Result<bool, ReplayFault>
+    ensures line { IsOfLine line.old line.new }
+    ensures led { IfOk result (λ led. led ≡ true → IsBeforeStep line.new hart (counts_of line.old.now.machine hart)) }
+{
     let count = count_of(line, hart);
-    if count == 0 {
-        return Ok(Reason::Begin);
+    if count == 0 || !line.go_to_count(hart, count)? {
+        return Ok(false);
     }
-    line.go_to_count(hart, count)?;
     let now = line.now();
-    line.go_to(now.saturating_sub(1))?;
-    Ok(Reason::Led)
+    if now == 0 {
+        return Ok(false);
+    }
+    line.go_to(now - 1)?;
+    Ok(true)
+}
+
+/// What the point with this number is a reason for.
+fn reason_at(points: &[Point], number: usize) -> Reason {
+    match points.get(number) {
+        Some(point) => Reason::Point(*point),
+        None => Reason::Led,
+    }
 }
 
 /// On to a point or to the end.
-fn go_on(line: &mut Timeline, points: &[Point], hart: Hart) -> Result<Arrival, ReplayFault> {
-    let Stop::At(number) = line.until(points)? else {
-        return Ok(Arrival {
-            hart,
-            reason: Reason::End,
-        });
+fn go_on(line: &mut Timeline, points: &[Point], hart: Hart) -> Result<Arrival, ReplayFault>
+    ensures line { IsOfLine line.old line.new }
+{
+    let reason = match line.until(points)? {
+        Stop::At(number) => reason_at(points, number),
+        Stop::End | Stop::Begin => Reason::End,
     };
-    let point = points[number];
-    let hart = match point {
-        Point::Break(_) => next_hart(line, hart),
-        Point::Watch(_, _) => last_hart(line, hart)?,
+    let hart = match reason {
+        Reason::Point(Point::Watch(_, _)) => last_hart(line, hart)?,
+        _ => next_hart(line, hart),
     };
-    Ok(Arrival {
-        hart,
-        reason: Reason::Point(point),
-    })
+    Ok(Arrival { hart, reason })
 }
 
 /// Back to a point or to the beginning.
-fn go_back(line: &mut Timeline, points: &[Point], hart: Hart) -> Result<Arrival, ReplayFault> {
+fn go_back(line: &mut Timeline, points: &[Point], hart: Hart) -> Result<Arrival, ReplayFault>
+    ensures line { IsOfLine line.old line.new }
+{
     let reason = match line.back_until(points)? {
-        Stop::At(number) => Reason::Point(points[number]),
+        Stop::At(number) => reason_at(points, number),
         Stop::Begin | Stop::End => Reason::Begin,
     };
-    Ok(Arrival {
-        hart: next_hart(line, hart),
-        reason,
-    })
+    let hart = next_hart(line, hart);
+    Ok(Arrival { hart, reason })
 }
 
 /// Goes this way, with the steps of this hart, or up to one of these points.
@@ -115,26 +126,26 @@ pub(crate) fn go(
     points: &[Point],
     way: Way,
     hart: Hart,
-) -> Result<Arrival, ReplayFault> {
-    match way {
-        Way::Step => {
-            let reason = step(line, hart)?;
-            Ok(Arrival { hart, reason })
-        }
-        Way::StepBack => {
-            let reason = step_back(line, hart)?;
-            Ok(Arrival { hart, reason })
-        }
-        Way::Continue => go_on(line, points, hart),
-        Way::ContinueBack => go_back(line, points, hart),
-    }
+) -> Result<Arrival, ReplayFault>
+    ensures line { IsOfLine line.old line.new }
+{
+    let (is_led, reason) = match way {
+        Way::Step => (step(line, hart)?, Reason::End),
+        Way::StepBack => (step_back(line, hart)?, Reason::Begin),
+        Way::Continue => return go_on(line, points, hart),
+        Way::ContinueBack => return go_back(line, points, hart),
+    };
+    let reason = if is_led { Reason::Led } else { reason };
+    Ok(Arrival { hart, reason })
 }
 
 /// The step that touched what the point watches last, by its hart and count. The line stands before it then.
 pub(crate) fn last_touch(
     line: &mut Timeline,
     point: Point,
-) -> Result<Option<(Hart, Count)>, ReplayFault> {
+) -> Result<Option<(Hart, Count)>, ReplayFault>
+    ensures line { IsOfLine line.old line.new }
+{
     let Stop::At(_) = line.back_until(&[point])? else {
         return Ok(None);
     };

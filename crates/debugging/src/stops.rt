@@ -14,7 +14,7 @@ pub(crate) enum Reason {
     Point(Point),
     /// The line begins.
     Begin,
-    /// The line ends, or that of a hart that was to step.
+    /// The line ends, or the hart takes no more steps.
     End,
 }
 

@@ -20,10 +20,10 @@ all_append P [] ys a b = b
 all_append P (x ∷ xs) ys a b = (a.0, all_append P xs ys a.1 b)
 
 escape_plain : (b : ℕ) → (b ≡ 35) ⊎ (b ≡ 35 → ⊥) → (b ≡ 36) ⊎ (b ≡ 36 → ⊥) → (b ≡ 42) ⊎ (b ≡ 42 → ⊥) → (b ≡ 125) ⊎ (b ≡ 125 → ⊥) → IsBody (escape b)
-escape_plain b (inl is) _ _ _ = rw is (omega arith, omega arith, tt)
-escape_plain b (inr hash) (inl is) _ _ = rw is (omega arith, omega arith, tt)
-escape_plain b (inr hash) (inr dollar) (inl is) _ = rw is (omega arith, omega arith, tt)
-escape_plain b (inr hash) (inr dollar) (inr star) (inl is) = rw is (omega arith, omega arith, tt)
+escape_plain b (inl is) _ _ _ = rw is (omega arith, (omega arith, tt))
+escape_plain b (inr hash) (inl is) _ _ = rw is (omega arith, (omega arith, tt))
+escape_plain b (inr hash) (inr dollar) (inl is) _ = rw is (omega arith, (omega arith, tt))
+escape_plain b (inr hash) (inr dollar) (inr star) (inl is) = rw is (omega arith, (omega arith, tt))
 escape_plain b (inr hash) (inr dollar) (inr star) (inr brace) =
     rw (ne_eqb b 35 hash, ne_eqb b 36 dollar, ne_eqb b 42 star, ne_eqb b 125 brace) (hash, tt)
 

@@ -133,7 +133,7 @@ follows_more stream piece given events more feed after i r h taken is f =
 
 pub says_packet : (text held bytes : List ℕ) → IsHeld text held → IsPacket held bytes → Says text (event.Packet bytes)
 says_packet text held bytes (inl is) packet =
-    let short : length (spelling bytes) ≤ TEXT_LIMIT = rw (← packet.1) packet.0 in
+    let short : length (spelling bytes) ≤ TEXT_LIMIT = subst (λ (t : List ℕ). length t ≤ TEXT_LIMIT) packet.1 packet.0 in
     (Packet bytes, (short, refl), sym packet.1 ∙ is, refl)
 says_packet text held bytes (inr long) packet = absurd (omega (arith, long.1, packet.0))
 

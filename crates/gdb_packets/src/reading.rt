@@ -1,6 +1,6 @@
 //! Packets that are read.
 
-ghost use Rattle.std.specs.Prelude.{◌≡◌, ℕ, ◌++◌, ◌∷◌, List, IfOk, IfSome, IfNone, false};
+ghost use Rattle.std.specs.Prelude.{◌≡◌, ◌↔◌, ℕ, ◌++◌, ◌∷◌, List, IfOk, IfSome, IfNone, IsTrue, false};
 ghost use Rattle.gdb_packets.specs.Packets.{IsPacket};
 ghost use Rattle.gdb_packets.specs.machinery.Unescaped.{unescaped};
 
@@ -36,8 +36,15 @@ fn said(alloc: Global, body: &[u8]) -> Result<Vec<u8>, Memory>
     Ok(bytes)
 }
 
+/// Whether the text is the other.
+fn is(text: &[u8], other: &[u8]) -> bool
+    ensures { IsTrue result ↔ (text.now ≡ other.now) }
+{
+    text == other
+}
+
 /// The bytes that the packet says whose text this is.
-#[tactic(auto, using(crate::proofs::Escapes::too_short, crate::proofs::Escapes::not_said))]
+#[tactic(auto, using(crate::proofs::Escapes::too_short))]
 pub fn read_packet(alloc: Global, text: &[u8]) -> Result<Option<PacketBytes>, Memory>
     ensures found { IfOk result (λ found. IfSome found (λ bytes. IsPacket text.now bytes)) }
     ensures none { IfOk result (λ found. IfNone found ((bytes : List ℕ) → IsPacket text.now bytes → ⊥)) }
@@ -47,7 +54,7 @@ pub fn read_packet(alloc: Global, text: &[u8]) -> Result<Option<PacketBytes>, Me
     }
     let bytes = said(alloc, &text[1..text.len() - 3])?;
     let spelled = write_packet(alloc, &bytes)?;
-    if spelled.as_slice() == text {
+    if is(spelled.as_slice(), text) {
         Ok(Some(PacketBytes::of(bytes)))
     } else {
         Ok(None)

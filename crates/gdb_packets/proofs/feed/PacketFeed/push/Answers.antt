@@ -22,5 +22,7 @@ loop-byte-preserved c = λ stream given f.
     r c.loop-byte-test.true c.in_ok-told.ensures more (c.loop-byte.invariant stream given f)
 
 pub returns : goal.returns
-returns c = λ stream given f. subst (λ (t : List ℕ). Follows (stream ++ t) (given ++ c.loop-byte.events.items) c.loop-byte.feed)
-    (take_all c.loop-byte.byte-index c.args.piece.now c.loop-byte-test.false) (c.loop-byte.invariant stream given f)
+returns c = record {
+  given = λ stream given f. subst (λ (t : List ℕ). Follows (stream ++ t) (given ++ c.loop-byte.events.items) c.loop-byte.feed)
+      (take_all c.loop-byte.byte-index c.args.piece.now c.loop-byte-test.false) (c.loop-byte.invariant stream given f);
+}
