@@ -1,5 +1,7 @@
 //! What a picture of a log shows.
 
+ghost use Rattle.std.specs.Prelude.{◌<◌, length};
+
 use crate::canvas::{Canvas, Place};
 use crate::marks::Marks;
 use crate::scale::{LEFT, Scale, WIDTH};
@@ -124,7 +126,9 @@ fn draw_outputs(
     scale: &Scale,
     machine: &Machine,
     hart: Hart,
-) -> Result<(), Memory> {
+) -> Result<(), Memory>
+    requires { hart < length machine.now.harts }
+{
     let mut marks = Marks::new(b"out");
     for (count, _word) in machine.hart(hart).outputs() {
         let at = scale.at(hart, *count);
@@ -189,7 +193,7 @@ pub fn draw_log(
     streams: &[Store],
 ) -> Result<Vec<u8>, Memory> {
     let scale = Scale {
-        harts: u64::from(machine.harts()),
+        harts: machine.harts(),
         steps: longest(plan),
     };
     let many = streams.len() as u64;

@@ -1,8 +1,5 @@
 //! Where steps stand in a picture.
 
-ghost use Rattle.std.specs.Prelude.{◌<◌, ◌≤◌};
-ghost use Rattle.ft_types.specs.declared.names.TheConstants.{COUNT_LIMIT};
-
 use crate::canvas::Place;
 use ft_types::{Count, Hart};
 
@@ -20,10 +17,13 @@ const ROW: u64 = 40;
 /// How far the rows of a stream stand from each other.
 const STREAM_ROW: u64 = 6;
 
+/// How much room is behind the rows of a stream.
+const STREAM_GAP: u64 = 14;
+
 /// How many harts there are, and how many steps the longest of them has.
 #[derive(Clone, Copy)]
 pub(crate) struct Scale {
-    pub(crate) harts: u64,
+    pub(crate) harts: u8,
     pub(crate) steps: Count,
 }
 
@@ -45,20 +45,23 @@ impl Scale {
 
     /// Where what a stream holds of a hart stands at a count.
     pub(crate) fn stored(&self, stream: u64, hart: Hart, count: Count) -> Place {
-        let above = TOP + ROW * self.harts + stream * self.stream_height();
         Place {
             x: self.x(count),
-            y: above + STREAM_ROW * u64::from(hart.number()),
+            y: self
+                .above(stream)
+                .saturating_add(STREAM_ROW * u64::from(hart.number())),
         }
     }
 
-    /// How much room a stream takes.
-    fn stream_height(&self) -> u64 {
-        STREAM_ROW * self.harts + 14
+    /// How far from the top the rows of the stream with this number begin.
+    fn above(&self, stream: u64) -> u64 {
+        let harts = u64::from(self.harts);
+        let height = STREAM_ROW * harts + STREAM_GAP;
+        (TOP + ROW * harts).saturating_add(height.saturating_mul(stream))
     }
 
     /// How much room so many streams take, with all above them.
     pub(crate) fn height(&self, streams: u64) -> u64 {
-        TOP + ROW * self.harts + streams * self.stream_height() + 10
+        self.above(streams).saturating_add(STREAM_GAP)
     }
 }
