@@ -2,27 +2,13 @@
 //! FIFOs or files.
 #![tactic(auto)]
 
-mod desk;
-mod events;
-mod faults;
-mod files;
-mod handing;
-mod keeping;
-mod listening;
-mod making;
-mod names;
-mod posting;
-
 ghost use Rattle.std.specs.Prelude.{◌≤◌};
 
-use crate::handing::hand;
-use crate::keeping::keep;
-use crate::making::make;
-use crate::names::{name_in_hand, name_in_keeper, name_in_make};
-use ends::{Fault, Host, refuse, tell};
+use ends::{Fault, Host, refuse};
 use live_client::ask;
+use live_keeper::{hand, keep, make};
 use live_primary::lead;
-use live_words::{HandWords, KeeperWords, MakeWords, Task, WordsFault, read_task};
+use live_words::{Task, WordsFault, read_task};
 use std::process::ExitCode;
 use std::{env, io};
 
@@ -37,50 +23,14 @@ fn arguments(rt: &HostRuntime) -> io::Result<Vec<String>> {
     Ok(words)
 }
 
-fn make_and_tell<H: Host>(rt: &H, words: &MakeWords<'_>) -> u8
-    ensures { result ≤ 1 }
-{
-    match make(rt, words) {
-        Ok(status) => status,
-        Err(fault) => {
-            tell(rt, &fault, name_in_make(words, &fault));
-            1
-        }
-    }
-}
-
-fn keep_and_tell<H: Host>(rt: &H, words: &KeeperWords<'_>) -> u8
-    ensures { result ≤ 1 }
-{
-    match keep(rt, words) {
-        Ok(status) => status,
-        Err(fault) => {
-            tell(rt, &fault, name_in_keeper(words, &fault));
-            1
-        }
-    }
-}
-
-fn hand_and_tell<H: Host>(rt: &H, words: &HandWords<'_>) -> u8
-    ensures { result ≤ 1 }
-{
-    match hand(rt, words) {
-        Ok(status) => status,
-        Err(fault) => {
-            tell(rt, &fault, name_in_hand(words, &fault));
-            1
-        }
-    }
-}
-
 /// Does what is asked for, tells a fault, and gives the status that the program ends with.
 fn run<H: Host>(rt: &H, task: &Task<'_>) -> u8
     ensures { result ≤ 2 }
 {
     match task {
-        Task::Make(words) => make_and_tell(rt, words),
-        Task::Keeper(words) => keep_and_tell(rt, words),
-        Task::Hand(words) => hand_and_tell(rt, words),
+        Task::Make(words) => make(rt, words),
+        Task::Keeper(words) => keep(rt, words),
+        Task::Hand(words) => hand(rt, words),
         Task::Primary(words) => lead(rt, words),
         Task::Client(words) => ask(rt, words),
     }
