@@ -10,7 +10,7 @@ mod files;
 mod words;
 
 pub use audits::audit_streams;
-pub use commands::{command, no_output, no_request};
+pub use commands::{answer, command, no_output, no_request};
 pub use failing_over::fail_over;
 pub use faults::CommandFault;
 pub use files::Files;
