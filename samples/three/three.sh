@@ -6,9 +6,9 @@
 #   CLIENT            the address of the client's machine
 #   FOLDER            where log, FIFOs and what is handed over lie; LIVE is the program, by itself `live`
 # Roles, of the machine of keeper K (docs/OPERATING.md says when which is typed):
-#   new K             makes the keeper's log, once for good, and goes on as `run`
+#   make K            makes the keeper's log, once for good
 #   run K             the keeper and all links of its machine, until it is stopped
-#   keeper K, links K each of the two alone
+#   new K             makes, and runs
 #   hand K T P        hands the log over to term T, to the machine of keeper P, which leads that
 #   primary P T K..   leads term T here, from the log of this machine and those that the keepers K.. hand over
 # and of the client's machine:
@@ -98,8 +98,10 @@ run() {
     keeper "$1"
 }
 
+make() { "$LIVE" make "$IMAGE" "$1" "${#keepers[@]}" "$NEED" "$PAIR" log; }
+
 new() {
-    "$LIVE" make "$IMAGE" "$1" "${#keepers[@]}" "$NEED" "$PAIR" log
+    make "$1"
     run "$1"
 }
 
