@@ -1,6 +1,7 @@
 //! The commands of the program.
 
 ghost use Rattle.std.specs.Prelude.{◌≡◌, codes, length, IfOk};
+ghost use Rattle.std.specs.Io.KnownBytes.{Appends};
 ghost use Rattle.ft_types.specs.Text.{line};
 ghost use Rattle.scripts.specs.Script.{AreOffered};
 ghost use Rattle.command_line.specs.Faults.{words_line};
@@ -398,7 +399,8 @@ pub fn command<F: Files, P: Pairs, W: Sink, E: Sink>(
 
 /// Tells a text, and gives the status that the program ends with.
 fn tell_text<W: Sink, E: Sink>(text: &str, out: &mut W, err: &mut E) -> u8
-    ensures { Ends result (E.bytes err.old) (E.bytes err.new) (E.failures err.old) (E.failures err.new) }
+    ensures text { result ≡ 0 → Appends (W.bytes out.old) (W.bytes out.new) text.now }
+    ensures ends { Ends result (E.bytes err.old) (E.bytes err.new) (E.failures err.old) (E.failures err.new) }
 {
     match write_all(out, text.as_bytes()) {
         Ok(()) => 0,

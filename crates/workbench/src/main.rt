@@ -43,7 +43,15 @@ fn status<P: Pairs>(rt: &HostRuntime, pairs: &P) -> u8
         return no_request(WordsFault::Memory, &mut err);
     };
     let mut out = HostWriter::new(stdout);
-    let status = answer(rt.alloc(), VERSION, &words, &mut files, pairs, &mut out, &mut err);
+    let status = answer(
+        rt.alloc(),
+        VERSION,
+        &words,
+        &mut files,
+        pairs,
+        &mut out,
+        &mut err,
+    );
     if status == 0 && !out.flush() {
         return no_output(&mut err);
     }
