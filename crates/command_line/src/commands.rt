@@ -1,6 +1,7 @@
 //! The commands of the program.
 
 ghost use Rattle.std.specs.Prelude.{◌≡◌, codes, length, IfOk};
+ghost use Rattle.std.specs.Io.KnownBytes.{Appends};
 ghost use Rattle.ft_types.specs.Text.{line};
 ghost use Rattle.scripts.specs.Script.{AreOffered};
 ghost use Rattle.command_line.specs.Faults.{words_line};
@@ -14,8 +15,8 @@ use crate::files::Files;
 use crate::graphs::graph_streams;
 use crate::looking_back::replay_streams_at;
 use crate::tracing::trace_streams;
-use crate::words::{NamedFile, Place, Request, Task, read_words};
-use ft_types::{Count, Sink, Source};
+use crate::words::{NamedFile, Place, Request, Task, asked_text, read_words};
+use ft_types::{Count, Sink, Source, write_all};
 use guest_image::{Image, read_image};
 use log_join::Store;
 use log_streams::{
@@ -455,6 +456,37 @@ pub fn command<F: Files, P: Pairs, W: Sink, E: Sink>(
 {
     match read_words(alloc, words) {
         Ok(request) => run_and_tell(alloc, &request, files, pairs, out, err),
+        Err(fault) => no_request(fault, err),
+    }
+}
+
+/// Tells a text, and gives the status that the program ends with.
+fn tell_text<W: Sink, E: Sink>(text: &str, out: &mut W, err: &mut E) -> u8
+    ensures text { result ≡ 0 → Appends (W.bytes out.old) (W.bytes out.new) text.now }
+    ensures ends { Ends result (E.bytes err.old) (E.bytes err.new) (E.failures err.old) (E.failures err.new) }
+{
+    match write_all(out, text.as_bytes()) {
+        Ok(()) => 0,
+        Err(_) => no_output(err),
+    }
+}
+
+/// Tells the text that the words ask for, of a program of this version, or does what they ask for, and gives the status that the program ends with.
+pub fn answer<F: Files, P: Pairs, W: Sink, E: Sink>(
+    alloc: Global,
+    version: &'static str,
+    words: &[String],
+    files: &mut F,
+    pairs: &P,
+    out: &mut W,
+    err: &mut E,
+) -> u8
+    requires { P.may_run pairs.now }
+    ensures ends { Ends result (E.bytes err.old) (E.bytes err.new) (E.failures err.old) (E.failures err.new) }
+{
+    match asked_text(alloc, version, words) {
+        Ok(Some(text)) => tell_text(text.as_str(), out, err),
+        Ok(None) => command(alloc, words, files, pairs, out, err),
         Err(fault) => no_request(fault, err),
     }
 }

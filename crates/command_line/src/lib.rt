@@ -14,7 +14,7 @@ mod tracing;
 mod words;
 
 pub use audits::audit_streams;
-pub use commands::{command, no_output, no_request};
+pub use commands::{answer, command, no_output, no_request};
 pub use debugger::debug_streams;
 pub use failing_over::fail_over;
 pub use faults::CommandFault;

@@ -3,7 +3,7 @@
 use ft_types::{COUNT_LIMIT, Count, HART_LIMIT, Hart, read_number};
 use log_streams::{Budget, PairOrders, Quorum};
 use std::alloc::Global;
-use word_forms::{Form, Words, WordsFault, read_form};
+use word_forms::{Form, Program, Words, WordsFault, read_form, read_text};
 
 /// A request: something to do with an image.
 #[derive(Drop)]
@@ -139,66 +139,84 @@ fn name_at<'a>(names: &Vec<&'a str>, number: usize) -> &'a str {
     }
 }
 
-/// `replay IMAGE LOGS..`, also with `at H N` behind it, `join IMAGE OUT LOGS..`, `cut IMAGE LOGS..`, `audit IMAGE LOGS..`, `graph IMAGE LOGS..`,
-/// `run IMAGE SCRIPT BUDGET OUT`, `pair IMAGE SCRIPT BUDGET KEEPERS NEED`, also with `warm` behind it,
-/// `failover IMAGE EVENTS KEEPERS NEED`, `trace IMAGE LOGS..` with `H FROM TO` behind it, `debug IMAGE LOGS..`
+/// The forms of the words. Behind those of `pair` may stand `warm`, behind those of `replay` `at H N`; behind those of `trace` stand `H FROM TO`.
 static FORMS: [Form; 10] = [
     Form {
         name: "replay",
+        usage: "workbench replay IMAGE LOG.. [at H N]",
+        about: "prints the text of the machine at the position of the joined logs, or where hart H has N steps",
         words: &["image"],
         has_paths: true,
         behind: &[],
     },
     Form {
         name: "join",
+        usage: "workbench join IMAGE OUT LOG..",
+        about: "writes the joined logs to OUT",
         words: &["image", "made"],
         has_paths: true,
         behind: &[],
     },
     Form {
         name: "cut",
+        usage: "workbench cut IMAGE LOG..",
+        about: "prints how far the joined logs lead",
         words: &["image"],
         has_paths: true,
         behind: &[],
     },
     Form {
         name: "audit",
+        usage: "workbench audit IMAGE LOG..",
+        about: "prints whether every schedule of the joined logs leads to one machine",
         words: &["image"],
         has_paths: true,
         behind: &[],
     },
     Form {
         name: "graph",
+        usage: "workbench graph IMAGE LOG..",
+        about: "prints a picture of the joined logs",
         words: &["image"],
         has_paths: true,
         behind: &[],
     },
     Form {
         name: "run",
+        usage: "workbench run IMAGE SCRIPT BUDGET OUT",
+        about: "runs a primary with what the script offers, BUDGET steps a hart, and writes its log to OUT",
         words: &["image", "script", "budget", "made"],
         has_paths: false,
         behind: &[],
     },
     Form {
         name: "pair",
+        usage: "workbench pair IMAGE SCRIPT BUDGET KEEPERS NEED [warm]",
+        about: "runs such a primary beside keepers, of whom NEED must hold an output",
         words: &["image", "script", "budget", "keepers", "need"],
         has_paths: false,
         behind: &[],
     },
     Form {
         name: "failover",
+        usage: "workbench failover IMAGE EVENTS KEEPERS NEED",
+        about: "leads a primary, its keepers and a gate by a list of events",
         words: &["image", "events", "keepers", "need"],
         has_paths: false,
         behind: &[],
     },
     Form {
         name: "trace",
+        usage: "workbench trace IMAGE LOG.. H FROM TO",
+        about: "prints a line for each step of hart H from FROM up to TO",
         words: &["image"],
         has_paths: true,
         behind: &[],
     },
     Form {
         name: "debug",
+        usage: "workbench debug IMAGE LOG..",
+        about: "answers gdb's remote protocol about the joined logs, on standard input and output",
         words: &["image"],
         has_paths: true,
         behind: &[],
@@ -407,4 +425,19 @@ pub fn read_words<'a>(alloc: Global, words: &'a [String]) -> Result<Request<'a>,
         Some(logs) => request_of(name, &words, logs, tail),
         None => request_of(name, &words, Vec::new(alloc), tail),
     }
+}
+
+/// The text that the words ask for in place of a request, of a program of this version: None where they ask for none.
+pub fn asked_text(
+    alloc: Global,
+    version: &'static str,
+    words: &[String],
+) -> Result<Option<String>, WordsFault> {
+    let program = Program {
+        name: "workbench",
+        version,
+        about: "Runs, replays, joins, cuts and audits logs of a guest, and leads a pair and a failover",
+        forms: &FORMS,
+    };
+    read_text(alloc, &program, words)
 }

@@ -4,11 +4,12 @@
 mod host;
 
 use crate::host::{HostFiles, HostWriter};
-use command_line::{Pairs, WordsFault, command, no_output, no_request};
+use command_line::{Pairs, WordsFault, answer, no_output, no_request};
 use pair::OnThreads;
 use std::io::BufWriter;
 use std::process::ExitCode;
 use std::{env, io};
+use version::VERSION;
 
 /// The arguments, but the program's name.
 fn arguments(rt: &HostRuntime) -> io::Result<Vec<String>> {
@@ -42,7 +43,15 @@ fn status<P: Pairs>(rt: &HostRuntime, pairs: &P) -> u8
         return no_request(WordsFault::Memory, &mut err);
     };
     let mut out = HostWriter::new(stdout);
-    let status = command(rt.alloc(), &words, &mut files, pairs, &mut out, &mut err);
+    let status = answer(
+        rt.alloc(),
+        VERSION,
+        &words,
+        &mut files,
+        pairs,
+        &mut out,
+        &mut err,
+    );
     if status == 0 && !out.flush() {
         return no_output(&mut err);
     }
