@@ -8,9 +8,10 @@ use ends::{Fault, Host, refuse};
 use live_client::ask;
 use live_keeper::{hand, keep, make};
 use live_primary::lead;
-use live_words::{Task, WordsFault, read_task};
+use live_words::{Task, WordsFault, asked_text, read_task};
 use std::process::ExitCode;
 use std::{env, io};
+use version::VERSION;
 
 /// The arguments, but the program's name.
 fn arguments(rt: &HostRuntime) -> io::Result<Vec<String>> {
@@ -43,13 +44,40 @@ fn fault_of(error: &io::Error) -> Fault {
     }
 }
 
-fn command<H: Host>(rt: &H, words: &[String]) -> u8
+fn refuse_words<H: Host>(rt: &H, fault: WordsFault) -> u8
+    ensures { result ≤ 2 }
+{
+    match fault {
+        WordsFault::Usage => refuse(rt, &Fault::Usage, ""),
+        WordsFault::Memory => refuse(rt, &Fault::Memory, ""),
+    }
+}
+
+fn tell_text<H: Host>(rt: &H, text: &str) -> u8
+    ensures { result ≤ 2 }
+{
+    match print!(rt; "{text}") {
+        Ok(()) => 0,
+        Err(_) => refuse(rt, &Fault::Write, ""),
+    }
+}
+
+fn task<H: Host>(rt: &H, words: &[String]) -> u8
     ensures { result ≤ 2 }
 {
     match read_task(rt.alloc(), words) {
         Ok(task) => run(rt, &task),
-        Err(WordsFault::Usage) => refuse(rt, &Fault::Usage, ""),
-        Err(WordsFault::Memory) => refuse(rt, &Fault::Memory, ""),
+        Err(fault) => refuse_words(rt, fault),
+    }
+}
+
+fn command<H: Host>(rt: &H, words: &[String]) -> u8
+    ensures { result ≤ 2 }
+{
+    match asked_text(rt.alloc(), VERSION, words) {
+        Ok(Some(text)) => tell_text(rt, text.as_str()),
+        Ok(None) => task(rt, words),
+        Err(fault) => refuse_words(rt, fault),
     }
 }
 

@@ -7,7 +7,6 @@ mod faults;
 mod names;
 mod office;
 mod outset;
-mod pace;
 mod pairs;
 mod reading;
 

@@ -2,36 +2,44 @@
 
 use word_forms::Form;
 
-/// `make IMAGE K KEEPERS NEED PAIR LOG`, `keeper IMAGE K LOG from FRAMES.. to ACKS..`, `hand IMAGE K LOG T`,
-/// `primary IMAGE T KEEPERS NEED in REQUESTS.. out ANSWERS.. to FRAMES.. from ACKS.. with HANDED..`,
-/// `client FILE WINDOW MILLIS to REQUESTS.. from ANSWERS..`
+/// The forms of the words.
 pub(crate) static FORMS: [Form; 5] = [
     Form {
         name: "make",
+        usage: "live make IMAGE K KEEPERS NEED PAIR LOG",
+        about: "makes the log of keeper K of a pair, empty, and its fences",
         words: &["image", "keeper", "keepers", "need", "pair", "log"],
         has_paths: false,
         behind: &[],
     },
     Form {
         name: "keeper",
+        usage: "live keeper IMAGE K LOG from FRAMES.. to ACKS..",
+        about: "adds what comes to LOG, and acknowledges what LOG holds",
         words: &["image", "keeper", "log"],
         has_paths: false,
         behind: &["to", "from"],
     },
     Form {
         name: "hand",
+        usage: "live hand IMAGE K LOG T",
+        about: "fences LOG off for term T, and writes it to standard output",
         words: &["image", "keeper", "log", "term"],
         has_paths: false,
         behind: &[],
     },
     Form {
         name: "primary",
+        usage: "live primary IMAGE T KEEPERS NEED in REQUESTS.. out ANSWERS.. to FRAMES.. from ACKS.. with HANDED..",
+        about: "leads term T, from what was handed over for it",
         words: &["image", "term", "keepers", "need"],
         has_paths: false,
         behind: &["with", "from", "to", "out", "in"],
     },
     Form {
         name: "client",
+        usage: "live client FILE WINDOW MILLIS to REQUESTS.. from ANSWERS..",
+        about: "asks for the words of FILE, and prints their answers",
         words: &["file", "window", "millis"],
         has_paths: false,
         behind: &["from", "to"],

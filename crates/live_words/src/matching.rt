@@ -12,7 +12,7 @@ use ft_types::{KEEPER_LIMIT, Keeper, Quorum, Term, read_number};
 use std::alloc::Global;
 use std::result::Result;
 use wire::{Pair, read_long_word};
-use word_forms::{Words, WordsFault, read_form};
+use word_forms::{Program, Words, WordsFault, read_form, read_text};
 
 /// The last of these rows, which is taken away.
 fn last_of<'a>(rows: &mut Vec<Vec<&'a str>>) -> Result<Vec<&'a str>, WordsFault>
@@ -241,4 +241,19 @@ pub fn read_task<'a>(alloc: Global, words: &'a [String]) -> Result<Task<'a>, Wor
     ensures { IfOk result IsUsable }
 {
     task_of(read_form(alloc, "live", &FORMS, words)?)
+}
+
+/// The text that the words ask for in place of a task, of a program of this version: None where they ask for none.
+pub fn asked_text(
+    alloc: Global,
+    version: &'static str,
+    words: &[String],
+) -> Result<Option<String>, WordsFault> {
+    let program = Program {
+        name: "live",
+        version,
+        about: "Keepers, primaries and clients of a guest, as processes over files and FIFOs",
+        forms: &FORMS,
+    };
+    read_text(alloc, &program, words)
 }

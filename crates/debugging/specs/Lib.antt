@@ -1,0 +1,4 @@
+pub mod Shown
+pub mod Asked
+pub mod Sessions
+pub mod Answers

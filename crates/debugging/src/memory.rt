@@ -1,0 +1,37 @@
+//! Bytes of RAM.
+
+use ft_types::Memory;
+use moments::{Bytes, Timeline};
+use std::alloc::Global;
+
+/// The number of bytes that one packet shows at the most.
+pub(crate) const SHOWN_LIMIT: u32 = 2048;
+
+/// The bytes of RAM from the first on, up to so many, to the end of RAM, or to what one packet shows.
+fn bytes_of(alloc: Global, line: &Timeline, range: Bytes) -> Result<Vec<u8>, Memory> {
+    let mut bytes = Vec::new(alloc);
+    for number in 0..range.length.min(SHOWN_LIMIT) {
+        let Some(address) = range.first.checked_add(number) else {
+            break;
+        };
+        let Some(byte) = line.byte(address) else {
+            break;
+        };
+        bytes.push(byte)?;
+    }
+    Ok(bytes)
+}
+
+/// The text of these bytes, where there is one.
+pub(crate) fn memory_text(
+    alloc: Global,
+    line: &Timeline,
+    range: Bytes,
+) -> Result<Option<Vec<u8>>, Memory> {
+    let bytes = bytes_of(alloc, line, range)?;
+    if bytes.is_empty() && range.length > 0 {
+        return Ok(None);
+    }
+    let text = hex::encode(alloc, bytes.as_slice())?;
+    Ok(Some(text.into_bytes()))
+}
