@@ -1,8 +1,8 @@
 #!/bin/sh
 # check.sh [PROGRAM]: runs what README.md, docs/GUIDE.md, docs/FAILOVER.md and docs/OPERATING.md print, as printed, in a fresh copy of the repository, and compares
-# the answers that they show; then runs each guest of guests/ and replays its log, looks at names and lengths of the documents (tools/names), refuses
-# memory to the rows of benches/refusals, kills keepers and primaries that are processes (samples/live), refuses their file calls, and sends them
-# what is changed by chance (benches/live). PROGRAM is the built workbench, by itself the one that `.ci/run` and `rt run` leave. The last line is
+# the answers that they show; then runs each guest of guests/ and replays its log, looks at names and lengths of the documents (tools/names), at versions, manual pages, units
+# and the package (tools/version, tools/manual, samples/package.sh), refuses memory to the rows of benches/refusals, kills keepers and primaries that are processes
+# (samples/live), refuses their file calls, and sends them what is changed by chance (benches/live). PROGRAM is the built workbench, by itself the one that `.ci/run` and `rt run` leave. The last line is
 # 'N passed, N failed'. Needs rt; what needs more is left out where that is not there.
 #
 # In these documents each indented block is typed into a shell of its own at the top of the repository. Where it has lines that begin with

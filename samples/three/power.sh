@@ -1,7 +1,7 @@
 #!/bin/bash
 # power.sh [LIVE]: three machines and a client's, each a network namespace of its own, led by three.sh. The machine that leads loses its power; another one leads the next
 # term; the first one comes back, catches up, and leads again once the other has lost its power too. The client must have each answer once more each time, and the next ones.
-# It prints how many commands were typed up to there, and how long things took. LIVE is the built program, by itself the one that `.ci/run` leaves. The last line is
+# Before that the line of a third one is down for a while. It prints how many commands were typed up to there, and how long things took. LIVE is the built program, by itself the one that `.ci/run` leaves. The last line is
 # 'N passed, N failed'. Needs bash, mkfifo, ip, socat, and the right to make namespaces.
 set -u
 top=$(cd "$(dirname "$0")/../.." && pwd)
@@ -34,8 +34,12 @@ trap 'exit 1' INT TERM
 
 # off M: the power of machine M: its line is down first, so that nobody is told.
 off() {
+    local left
     ip -n "$net.$1" link set eth down 2> /dev/null
-    for process in $(ip netns pids "$net.$1" 2> /dev/null); do kill -9 "$process" 2> /dev/null; done
+    while left=$(ip netns pids "$net.$1" 2> /dev/null) && [ -n "$left" ]; do
+        kill -9 $left 2> /dev/null
+        sleep 0.02
+    done
 }
 
 # on M WORDS..: three.sh as it is typed on machine M; started M WORDS..: without waiting for its end.
@@ -107,6 +111,15 @@ started 1 hand 1 1 0
 started 0 primary 0 1 1
 asks 01070011=a0070011 01070012=b0070011 01080012=a0080012 03070012=a0070011
 
+# The line of machine 2 is down for longer than keepalive waits, while frames go to it.
+ip -n "$net.2" link set eth down
+asks 01280011=e0280011
+sleep 5
+began=$(now)
+ip -n "$net.2" link set eth up
+until_so 'keeper 2 catches up' cmp -s "$work/0/log" "$work/2/log"
+told 'the line of machine 2 is back, and it keeps all' "$began"
+
 began=$(now)
 off 0
 started 2 hand 2 2 1
@@ -124,7 +137,7 @@ began=$(now)
 off 1
 started 2 hand 2 3 0
 started 0 primary 0 3 2
-asks 01280011=e0280011
+asks 00080011=e0080011
 told 'machine 1 is lost, and machine 0 has answered' "$began"
 
 sort "$work/told" | uniq -c | sed 's/^/told: /'
