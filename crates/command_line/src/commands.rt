@@ -11,6 +11,7 @@ use crate::debugger::debug_streams;
 use crate::failing_over::fail_over;
 use crate::faults::{CommandFault, named_in, status_of, write_fault, write_words_fault, written};
 use crate::files::Files;
+use crate::graphs::graph_streams;
 use crate::looking_back::replay_streams_at;
 use crate::tracing::trace_streams;
 use crate::words::{NamedFile, Place, Request, Task, read_words};
@@ -201,6 +202,21 @@ fn audit_logs<F: Files, W: Sink>(
     audit_streams(alloc, image, &mut readers, out)
 }
 
+/// Draws the logs.
+fn graph_logs<F: Files, P: Replays, W: Sink>(
+    alloc: Global,
+    image: &Image,
+    names: &[&str],
+    files: &mut F,
+    replays: &P,
+    out: &mut W,
+) -> Result<(), CommandFault>
+    requires { P.may_run replays.now }
+{
+    let mut readers = open_logs(alloc, names, files)?;
+    graph_streams(alloc, image, &mut readers, replays, out)
+}
+
 /// Writes the text of the machine to which the logs lead at a place.
 fn replay_logs_at<F: Files, W: Sink>(
     alloc: Global,
@@ -354,6 +370,7 @@ fn run_task<F: Files, P: Pairs, W: Sink>(
         Task::Run { budget, .. } => record(alloc, image, *budget, request, files, pairs, out),
         Task::Cut(logs) => cut_logs(alloc, image, logs, files, out),
         Task::Audit(logs) => audit_logs(alloc, image, logs, files, out),
+        Task::Graph(logs) => graph_logs(alloc, image, logs, files, pairs, out),
         Task::Pair {
             orders,
             is_warm,

@@ -40,6 +40,8 @@ pub enum Task<'a> {
     Cut(Vec<&'a str>),
     /// Tell whether these logs lead to one machine by every schedule.
     Audit(Vec<&'a str>),
+    /// Draw these logs.
+    Graph(Vec<&'a str>),
     /// Run a primary, and write its frames to a file.
     Run {
         script: &'a str,
@@ -101,6 +103,7 @@ impl<'a> Task<'a> {
             Task::Replay(logs) | Task::Join { logs, .. } => name_at(logs, number),
             Task::ReplayAt { logs, .. } | Task::Trace { logs, .. } => name_at(logs, number),
             Task::Cut(logs) | Task::Audit(logs) | Task::Debug(logs) => name_at(logs, number),
+            Task::Graph(logs) => name_at(logs, number),
             _ => "",
         }
     }
@@ -136,10 +139,10 @@ fn name_at<'a>(names: &Vec<&'a str>, number: usize) -> &'a str {
     }
 }
 
-/// `replay IMAGE LOGS..`, also with `at H N` behind it, `join IMAGE OUT LOGS..`, `cut IMAGE LOGS..`, `audit IMAGE LOGS..`,
+/// `replay IMAGE LOGS..`, also with `at H N` behind it, `join IMAGE OUT LOGS..`, `cut IMAGE LOGS..`, `audit IMAGE LOGS..`, `graph IMAGE LOGS..`,
 /// `run IMAGE SCRIPT BUDGET OUT`, `pair IMAGE SCRIPT BUDGET KEEPERS NEED`, also with `warm` behind it,
 /// `failover IMAGE EVENTS KEEPERS NEED`, `trace IMAGE LOGS..` with `H FROM TO` behind it, `debug IMAGE LOGS..`
-static FORMS: [Form; 9] = [
+static FORMS: [Form; 10] = [
     Form {
         name: "replay",
         words: &["image"],
@@ -160,6 +163,12 @@ static FORMS: [Form; 9] = [
     },
     Form {
         name: "audit",
+        words: &["image"],
+        has_paths: true,
+        behind: &[],
+    },
+    Form {
+        name: "graph",
         words: &["image"],
         has_paths: true,
         behind: &[],
@@ -321,6 +330,7 @@ fn task_of<'a>(
         "join" => join(words, logs),
         "cut" => Ok(Task::Cut(logs)),
         "audit" => Ok(Task::Audit(logs)),
+        "graph" => Ok(Task::Graph(logs)),
         "run" => run(words),
         "pair" => pair(words, tail),
         "failover" => fail_over(words),
