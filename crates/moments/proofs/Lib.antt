@@ -2,3 +2,8 @@ pub mod Sums
 pub mod Moves
 pub mod Standings
 pub mod Parts
+pub mod Choosing
+pub mod Stepping
+pub mod Turning
+pub mod Passing
+pub mod Keeping

@@ -22,7 +22,7 @@ OneMachine =
     one ≡ other
 
 -- the plan's line leads from the image's boot to this standing, in this leg
-pub record OnLine (image : ImageContents) (guest : GuestParts) (legs : List PlannedLeg) (leg : PlannedLeg) (t : Standing) : Type 0 where
+pub record StandsOn (image : ImageContents) (guest : GuestParts) (legs : List PlannedLeg) (leg : PlannedLeg) (t : Standing) : Type 0 where
   pub harts : image.harts ≡ guest.harts
   pub plan : IsPlan guest legs
   pub leads : Leads legs (standing_at (boot_machine image)) t
@@ -31,13 +31,13 @@ pub record OnLine (image : ImageContents) (guest : GuestParts) (legs : List Plan
 -- the counts at each moment are a closed cut of the leg
 abbrev pub CountsAreCuts : Type 0
 CountsAreCuts =
-    (image : ImageContents) (guest : GuestParts) (legs : List PlannedLeg) (leg : PlannedLeg) (t : Standing) → OnLine image guest legs leg t →
+    (image : ImageContents) (guest : GuestParts) (legs : List PlannedLeg) (leg : PlannedLeg) (t : Standing) → StandsOn image guest legs leg t →
     IsCut (log_of leg) (counts_of t.machine)
 
 -- and of honest frames the machine is the history's at that cut of the leg's term
 abbrev pub LinesTellHistories : Type 0
 LinesTellHistories =
-    (image : ImageContents) (guest : GuestParts) (legs : List PlannedLeg) (leg : PlannedLeg) (t : Standing) → OnLine image guest legs leg t →
+    (image : ImageContents) (guest : GuestParts) (legs : List PlannedLeg) (leg : PlannedLeg) (t : Standing) → StandsOn image guest legs leg t →
     (history : GuestHistory) (store : StoreView) (position : Position) → IsStore store → IsHonestStoreOf image history store →
     ArePlanned store position legs →
     view (hardware image.pages) t.machine ≡ machine_of image history leg.term (counts_of t.machine)

@@ -1,3 +1,5 @@
 pub mod Parts
 pub mod Machines
 pub mod Kept
+pub mod Pending
+pub mod Raising

@@ -12,6 +12,7 @@ mod ram;
 mod snapshots;
 mod timeline;
 mod travel;
+mod turning;
 
 pub use access::{Access, Bytes};
 pub use cuts::machine_at;

@@ -1,5 +1,9 @@
 //! Points at which a timeline stops.
 
+ghost use Rattle.std.specs.Prelude.{◌≡◌, ◌↔◌, All, Some, IsTrue, IfSome, IfNone, slice_get};
+ghost use Rattle.moments.specs.declared.points.Point.{Point as point_of_specs};
+ghost use Rattle.moments.specs.Points.{Breaks, Watches};
+
 use crate::access::{Access, Bytes, overlap};
 
 /// What is watched.
@@ -34,7 +38,9 @@ pub enum Stop {
 }
 
 /// Whether a step at this pc is at the point.
-pub(crate) fn breaks(point: Point, pc: u32) -> bool {
+pub(crate) fn breaks(point: Point, pc: u32) -> bool
+    ensures { IsTrue result ↔ Breaks point pc }
+{
     match point {
         Point::Break(address) => pc == address,
         Point::Watch(_, _) => false,
@@ -42,7 +48,9 @@ pub(crate) fn breaks(point: Point, pc: u32) -> bool {
 }
 
 /// Whether a step that uses bytes so is watched by the point.
-pub(crate) fn watches(point: Point, access: Access) -> bool {
+pub(crate) fn watches(point: Point, access: Access) -> bool
+    ensures { IsTrue result ↔ Watches point access }
+{
     match (point, access) {
         (Point::Watch(Watched::Read | Watched::Access, watched), Access::Reads(bytes)) => {
             overlap(watched, bytes)
@@ -56,7 +64,10 @@ pub(crate) fn watches(point: Point, access: Access) -> bool {
 }
 
 /// The first point that a step at this pc is at.
-pub(crate) fn first_break(points: &[Point], pc: u32) -> Option<usize> {
+pub(crate) fn first_break(points: &[Point], pc: u32) -> Option<usize>
+    ensures some { IfSome result (λ n. (point : point_of_specs) × (slice_get points.now n ≡ Some point) × Breaks point pc) }
+    ensures none { IfNone result (All (λ point. Breaks point pc → ⊥) points.now) }
+{
     for number in 0..points.len() {
         if breaks(points[number], pc) {
             return Some(number);
@@ -66,7 +77,10 @@ pub(crate) fn first_break(points: &[Point], pc: u32) -> Option<usize> {
 }
 
 /// The first point that watches a step that uses bytes so.
-pub(crate) fn first_watch(points: &[Point], access: Access) -> Option<usize> {
+pub(crate) fn first_watch(points: &[Point], access: Access) -> Option<usize>
+    ensures some { IfSome result (λ n. (point : point_of_specs) × (slice_get points.now n ≡ Some point) × Watches point access) }
+    ensures none { IfNone result (All (λ point. Watches point access → ⊥) points.now) }
+{
     for number in 0..points.len() {
         if watches(points[number], access) {
             return Some(number);

@@ -1,23 +1,29 @@
 //! The machine at one moment of a plan's line.
 
-ghost use Rattle.std.specs.Prelude.{◌≡◌, ◌≢◌, ◌↔◌, ◌<◌, ◌≤◌, ◌+◌, ◌-◌, ◌^◌, ◌⊎◌, ℕ, List, [], Err, Some, true, false, map, length, slice_get, slice_index, IfOk, IfErr, OnOk, OnErr, IfSome, IfNone};
+ghost use Rattle.std.specs.Prelude.{◌≡◌, ◌≢◌, ◌↔◌, ◌<◌, ◌≤◌, ◌+◌, ◌-◌, ◌⊎◌, ◌%◌, ℕ, [], Err, Some, true, false, length, slice_get, slice_index, slice_index_or, IfOk, IfErr, OnOk, OnErr, IfSome, IfNone};
 ghost use Rattle.ft_types.specs.Counts.{count_at};
 ghost use Rattle.ft_types.specs.declared.names.TheConstants.{INPUT_LIMIT};
 ghost use Rattle.input_log.specs.Inputs.{inputs_at, inputs_of};
 ghost use Rattle.guest_image.specs.Image.{guest_of};
 ghost use Rattle.guest_image.specs.Machine.{boot_machine};
+ghost use Rattle.rv32_hart.specs.Hart.{Hart as HartRecord};
+ghost use Rattle.rv32_hart.specs.Ram.{word_at};
+ghost use Rattle.rv32_hart.specs.Access.{in_ram, page_at, offset_at};
+ghost use Rattle.moments.specs.declared.access.Access.{Access as access_of_specs};
+ghost use Rattle.moments.specs.Points.{IsStepFrom};
 ghost use Rattle.hart_lease.specs.Runs.{counts_of};
 ghost use Rattle.hart_replay.specs.declared.fault.ReplayFault.TheVariants as fault;
 ghost use Rattle.hart_replay.specs.Leading.{AreAtEnds, ComesShort};
 ghost use Rattle.moments.specs.Line.{LineView, InLeg, IsAt, IsAtEnd, IsNext, NoneMayGo, HasGoneOn, steps_of as steps_of_legs};
 ghost use Rattle.moments.specs.machinery.Machines.{machine_of, standing_of};
-ghost use Rattle.moments.specs.machinery.Kept.{IsBegun};
+ghost use Rattle.moments.specs.machinery.Kept.{IsBegun, OnLine};
 
 use crate::access::{Access, access_of, place_of};
 use crate::machines::SteppedMachine;
-use crate::next::{Stops, are_at_ends, next_hart, stop_of};
+use crate::next::{Stops, next_hart};
 use crate::snapshots::{Snapshot, copied, last_below, nearest, shared};
-use ft_types::{Count, Counts, HART_ROW, Hart, Memory, Term, is_same_guest};
+use crate::turning::{no_stops, take_step, turn};
+use ft_types::{Count, Counts, Hart, Memory, Term, is_same_guest};
 use guest_image::{Image, Machine};
 use hart_replay::{Plan, PlannedLeg, ReplayFault, steps_in};
 use input_log::Input;
@@ -120,10 +126,13 @@ fn begun(alloc: Global, plan: Plan, first: Snapshot) -> Result<Timeline, Memory>
     ensures moment { IfOk result (λ t. t.now.moment ≡ 0) }
 {
     let mut first = first;
-    let now = shared(&mut first)?;
+    let mut now = shared(&mut first)?;
     let last = steps_of(plan.legs());
     let stretch = LEAST_STRETCH.max(last / KEPT_LIMIT as u64 + 1);
-    let mut line = Timeline {
+    let mut stops = no_stops();
+    turn(plan.legs(), &mut now, &mut stops);
+    let decoder = Box::new(alloc, Decoder::new())?;
+    Ok(Timeline {
         plan,
         last,
         first,
@@ -131,11 +140,9 @@ fn begun(alloc: Global, plan: Plan, first: Snapshot) -> Result<Timeline, Memory>
         kept: Vec::new(alloc),
         stretch,
         due: stretch,
-        stops: [0; HART_ROW],
-        decoder: Box::new(alloc, Decoder::new())?,
-    };
-    line.turn();
-    Ok(line)
+        stops,
+        decoder,
+    })
 }
 
 impl Timeline {
@@ -227,16 +234,20 @@ impl Timeline {
     }
 
     /// The byte at an address of RAM.
-    pub fn byte(&self, address: u32) -> Option<u8> {
+    pub fn byte(&self, address: u32) -> Option<u8>
+        ensures byte { IfSome result (λ b. b ≡ slice_index (slice_index_or self.now.now.machine.pages (page_at address) []) (offset_at address)) }
+        ensures none { IfNone result (in_ram (length self.now.now.machine.pages) address ≡ false) }
+    {
         let (page, offset) = place_of(self.pages(), address)?;
         Some(self.now.machine.byte(page, offset))
     }
 
     /// The word at an address of RAM that is a multiple of four.
-    pub fn word(&self, address: u32) -> Option<u32> {
-        if address % 4 != 0 {
-            return None;
-        }
+    pub fn word(&self, address: u32) -> Option<u32>
+        requires { address % 4 ≡ 0 }
+        ensures word { IfSome result (λ w. w ≡ word_at (slice_index_or self.now.now.machine.pages (page_at address) []) (offset_at address)) }
+        ensures none { IfNone result (in_ram (length self.now.now.machine.pages) address ≡ false) }
+    {
         let (page, offset) = place_of(self.pages(), address)?;
         Some(self.now.machine.word(page, offset))
     }
@@ -268,20 +279,12 @@ impl Timeline {
     }
 
     /// What the step that comes next uses of RAM, beside the word that it fetches.
-    pub fn access(&self) -> Access {
+    pub fn access(&self) -> Access
+        ensures uses { (h : HartRecord) (access : access_of_specs) → IsStepFrom self.now.legs self.now.now h access → result ≡ access }
+    {
         match self.next() {
             Some(hart) => access_of(&self.now.machine, hart, self.inputs(hart)),
             None => Access::Nothing,
-        }
-    }
-
-    /// Goes on to the leg in which the next step is, where the present one was led to its end.
-    fn turn(&mut self) {
-        let legs = self.plan.legs();
-        while self.now.leg + 1 < legs.len() && are_at_ends(&legs[self.now.leg], &self.now.machine)
-        {
-            self.now.leg += 1;
-            self.stops = [0; HART_ROW];
         }
     }
 
@@ -305,20 +308,18 @@ impl Timeline {
         ensures taken { OnOk result (HasGoneOn self.old self.new 1) }
         ensures kept { OnErr result (self.new ≡ self.old) }
     {
-        let leg = &self.plan.legs()[self.now.leg];
-        let count = self.now.machine.hart(hart).count();
-        let is_quiet = count < self.stops[hart.index()];
-        let inputs = if is_quiet {
-            &[]
-        } else {
-            leg.inputs.at(hart, count)
-        };
-        self.now.machine.step(hart, inputs, &mut *self.decoder)?;
-        self.now.moment += 1;
-        if !is_quiet {
-            self.stops[hart.index()] = stop_of(leg, hart, count + 1);
-        }
-        self.turn();
+        // proof: the line has room for the step.
+        let _last = self.last;
+        let legs = self.plan.legs();
+        let leg = &legs[self.now.leg];
+        take_step(
+            leg,
+            &mut self.now,
+            &mut self.stops,
+            hart,
+            &mut *self.decoder,
+        )?;
+        turn(legs, &mut self.now, &mut self.stops);
         Ok(())
     }
 
@@ -327,6 +328,7 @@ impl Timeline {
     pub fn forward(&mut self) -> Result<bool, ReplayFault>
         ensures went { IfOk result (λ went. went ≡ true → HasGoneOn self.old self.new 1) }
         ensures end { IfOk result (λ went. went ≡ false → (self.new ≡ self.old) × IsAtEnd self.old) }
+        ensures all { IfOk result (λ went. went ≡ false → self.old.now.moment ≡ steps_of_legs self.old.legs) }
         ensures kept { OnErr result (self.new ≡ self.old) }
         ensures fault { IfErr result (λ f. InLeg self.old (λ leg. ComesShort self.old.now.machine leg.ends f)) }
         ensures stuck { IfErr result (λ f. f ≢ fault.Memory → InLeg self.old (λ leg. NoneMayGo leg self.old.now.machine)) }
@@ -350,6 +352,7 @@ impl Timeline {
     /// False, where the line is at its end; else why nobody can go on.
     fn end(&self) -> Result<bool, ReplayFault>
         ensures end { IfOk result (λ went. (went ≡ false) × IsAtEnd self.now) }
+        ensures all { IfOk result (λ went. self.now.now.moment ≡ steps_of_legs self.now.legs) }
         ensures fault { IfErr result (λ f. InLeg self.now (λ leg. ComesShort self.now.now.machine leg.ends f)) }
         ensures memory { IfErr result (λ f. f ≢ fault.Memory) }
     {
@@ -363,10 +366,17 @@ impl Timeline {
     }
 
     /// Goes to a snapshot of the line.
-    fn jump(&mut self, now: Snapshot) {
+    fn jump(&mut self, there: Snapshot)
+        requires { OnLine self.old (standing_of there) }
+        ensures line { self.new ≡ record self.old { now = self.new.now } }
+        ensures moment { self.new.now.moment ≡ there.moment }
+        ensures machine { self.new.now.machine ≡ machine_of there.machine }
+    {
+        let mut now = there;
+        let mut stops = no_stops();
+        turn(self.plan.legs(), &mut now, &mut stops);
         self.now = now;
-        self.stops = [0; HART_ROW];
-        self.turn();
+        self.stops = stops;
     }
 
     /// Goes to the last machine that was kept at this moment or before, where the line does not stand between the two.
