@@ -49,13 +49,13 @@ fn last_hart(line: &mut Timeline, otherwise: Hart) -> Result<Hart, ReplayFault>
     ensures line { IsOfLine line.old line.new }
     ensures there { OnOk result (line.new.now.moment ≡ line.old.now.moment) }
 {
-    let now = line.now();
-    if now == 0 {
+    let here = line.now();
+    if here == 0 {
         return Ok(otherwise);
     }
-    line.go_to(now - 1)?;
+    line.go_to(here - 1)?;
     let hart = next_hart(line, otherwise);
-    line.go_to(now)?;
+    line.go_to(here)?;
     Ok(hart)
 }
 
