@@ -3,3 +3,4 @@ pub mod Memories
 pub mod Asked
 pub mod Sessions
 pub mod Answers
+pub mod Sent
