@@ -78,6 +78,7 @@ fn read_watched(text: &[u8]) -> Option<Bytes> {
 }
 
 /// The step at which the hart puts out the output with this number: the line stands anywhere then.
+#[tactic(auto, using(crate::proofs::Lines::led_on))]
 fn output_step(line: &mut Timeline, hart: Hart, number: u64) -> Result<Option<Count>, ReplayFault>
     ensures line { IsOfLine line.old line.new }
 {
@@ -164,6 +165,7 @@ fn put_touch(text: &mut Vec<u8>, touch: Touch) -> Result<(), Memory> {
 
 impl Session {
     /// Goes to a step of a hart, where there is one, and else back to where it stood.
+    #[tactic(auto, using(crate::proofs::Lines::led_on))]
     fn go_to_step(
         &mut self,
         text: &mut Vec<u8>,
@@ -187,6 +189,7 @@ impl Session {
     }
 
     /// Says who wrote the word last.
+    #[tactic(auto, using(crate::proofs::Lines::led_on))]
     fn tell_writer(&mut self, text: &mut Vec<u8>, word: Bytes) -> Result<(), ReplayFault>
         ensures line { IsOfLine self.old.line self.new.line }
     {
@@ -200,6 +203,7 @@ impl Session {
     }
 
     /// Says which two steps of two harts touched the word last, of which one wrote it.
+    #[tactic(auto, using(crate::proofs::Lines::led_on))]
     fn tell_race(&mut self, text: &mut Vec<u8>, word: Bytes) -> Result<(), ReplayFault>
         ensures line { IsOfLine self.old.line self.new.line }
     {
