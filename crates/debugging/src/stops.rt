@@ -18,6 +18,12 @@ pub(crate) enum Reason {
     End,
 }
 
+/// Puts a text.
+pub(crate) fn put_text(text: &mut Vec<u8>, piece: &[u8]) -> Result<(), Memory> {
+    text.extend_from_slice(piece)?;
+    Ok(())
+}
+
 /// Puts a number.
 pub(crate) fn put_number(text: &mut Vec<u8>, number: u64) -> Result<(), Memory> {
     let mut digits = LineBuffer::new();
