@@ -8,7 +8,7 @@ use crate::numbers::{cut, read_hex};
 use crate::queries::{hex_text, put_hart};
 use crate::runs::{count_of, hart_at, last_touch};
 use crate::session::Session;
-use crate::stops::put_number;
+use crate::stops::{put_number, put_text};
 use ft_types::{Count, Hart, Memory, read_number};
 use hart_replay::{PlannedLeg, ReplayFault};
 use hex::FromHexError;
