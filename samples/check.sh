@@ -30,10 +30,13 @@ if [ -x "$live" ]; then
     cp "$live" "$fresh/crates/live/out/live"
 fi
 lua=$top/guests/out/-O2/lua.image
-if [ -f "$lua" ]; then
-    mkdir -p "$fresh/guests/out/-O2"
-    cp "$lua" "$fresh/guests/out/-O2/lua.image"
-fi
+sqlite=$top/guests/out/-O2/sqlite.image
+for image in "$lua" "$sqlite"; do
+    if [ -f "$image" ]; then
+        mkdir -p "$fresh/guests/out/-O2"
+        cp "$image" "$fresh/guests/out/-O2/"
+    fi
+done
 
 pass() {
     passed=$((passed + 1))
@@ -62,6 +65,8 @@ lacks() {
         echo "no bash is installed"
     elif grep -q 'pair.sh .* lua' "$1" && [ ! -f "$lua" ]; then
         echo "there is no $lua"
+    elif grep -q 'pair.sh .* sqlite' "$1" && [ ! -f "$sqlite" ]; then
+        echo "there is no $sqlite"
     elif grep -q 'apt-get' "$1"; then
         echo "it installs packages"
     elif grep -q 'make ' "$1" && [ "$(riscv64-unknown-elf-gcc -dumpfullversion 2> /dev/null)" != 12.2.0 ]; then
@@ -233,6 +238,11 @@ elif [ -x "$live" ] && command -v bash > /dev/null; then
         drills 'Lua on primaries that are processes' drill.sh 10 1 800 10 lua
     else
         echo "left out Lua on primaries that are processes, since there is no $lua"
+    fi
+    if [ -f "$sqlite" ] && python3 -c 'import sqlite3' 2> /dev/null; then
+        drills "SQLite beside the host's" sqlite.sh 10
+    else
+        echo "left out SQLite beside the host's, since there is no $sqlite or no python3 with SQLite"
     fi
     if command -v redis-server > /dev/null && command -v python3 > /dev/null; then
         drills 'processes over a Redis server' carried.sh 10 1 200 redis

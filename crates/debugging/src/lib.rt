@@ -12,6 +12,7 @@ mod numbers;
 mod points;
 mod queries;
 mod registers;
+mod rows;
 mod runs;
 mod session;
 mod stops;
