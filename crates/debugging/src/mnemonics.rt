@@ -1,7 +1,6 @@
 //! Words as assembler has them.
 
 use crate::names::{register_name, trimmed};
-use crate::rows::{Form, ROWS, Row};
 use crate::stops::put_number;
 use ft_types::{Memory, word_text};
 use rv32_isa::decode;
