@@ -1,3 +1,3 @@
-pub mod Numbers
+pub mod Digits
 pub mod Lines
 pub mod Sending

@@ -57,7 +57,7 @@ impl Conversation {
         ensures { OnOk result (Adds said.old.items said.new.items) }
     {
         self.acknowledge(said, b'+')?;
-        if packet == b"QStartNoAckMode".as_slice() {
+        if matches!(packet, b"QStartNoAckMode") {
             self.acknowledges = false;
         }
         match self.session.answer(alloc, packet)? {

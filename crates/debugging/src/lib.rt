@@ -12,7 +12,6 @@ mod numbers;
 mod points;
 mod queries;
 mod registers;
-mod rows;
 mod runs;
 mod session;
 mod stops;

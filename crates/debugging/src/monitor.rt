@@ -8,7 +8,7 @@ use crate::numbers::{cut, read_hex};
 use crate::queries::{hex_text, put_hart};
 use crate::runs::{count_of, hart_at, last_touch};
 use crate::session::Session;
-use crate::stops::{put_number, put_text};
+use crate::stops::{put, put_number};
 use ft_types::{Count, Hart, Memory, read_number};
 use hart_replay::{PlannedLeg, ReplayFault};
 use hex::FromHexError;
@@ -185,7 +185,7 @@ impl Session {
             return Ok(put_place(text, &self.line)?);
         }
         self.line.go_to(now)?;
-        Ok(put_text(text, b"no such step\n")?)
+        Ok(put(text, b"no such step\n")?)
     }
 
     /// Says who wrote the word last.
@@ -198,7 +198,7 @@ impl Session {
         self.line.go_to(now)?;
         match found {
             Some((hart, count)) => Ok(put_step(text, b"written by", hart, count)?),
-            None => Ok(put_text(text, b"not written\n")?),
+            None => Ok(put(text, b"not written\n")?),
         }
     }
 
@@ -211,7 +211,7 @@ impl Session {
         let found = last_race(&mut self.line, word)?;
         self.line.go_to(now)?;
         let Some((earlier, later)) = found else {
-            return Ok(put_text(text, b"no race\n")?);
+            return Ok(put(text, b"no race\n")?);
         };
         put_touch(text, earlier)?;
         Ok(put_touch(text, later)?)
@@ -238,7 +238,7 @@ impl Session {
             }
             (b"who", _, Some(word)) => self.tell_writer(text, word),
             (b"race", _, Some(word)) => self.tell_race(text, word),
-            _ => Ok(put_text(text, HELP)?),
+            _ => Ok(put(text, HELP)?),
         }
     }
 
@@ -250,7 +250,7 @@ impl Session {
         match hex::decode(alloc, digits) {
             Ok(command) => self.tell_of(&mut text, &command)?,
             Err(FromHexError::OutOfMemory) => return Err(ReplayFault::Memory),
-            Err(_) => put_text(&mut text, HELP)?,
+            Err(_) => put(&mut text, HELP)?,
         }
         Ok(hex_text(alloc, &text)?)
     }

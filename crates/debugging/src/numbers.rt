@@ -17,7 +17,7 @@ fn padded(text: &[u8]) -> [u8; 8]
 }
 
 /// The number that these digits to the base 16 are, one to eight of them.
-#[tactic(auto, using(crate::proofs::Numbers::hex_read, crate::proofs::Numbers::hex_not_read))]
+#[tactic(auto, using(crate::proofs::Digits::hex_read, crate::proofs::Digits::hex_not_read))]
 pub(crate) fn read_hex(text: &[u8]) -> Option<u32>
     ensures { (n : ℕ) → IsHex text.now n → result ≡ Some n }
 {
@@ -39,7 +39,7 @@ pub(crate) fn cut(text: &[u8], byte: u8) -> (&[u8], &[u8])
 }
 
 /// `A,L`: so many bytes from an address on.
-#[tactic(auto, using(crate::proofs::Numbers::cut_is))]
+#[tactic(auto, using(crate::proofs::Digits::cut_is))]
 pub(crate) fn read_range(text: &[u8]) -> Option<Bytes>
     ensures { (address many : ℕ) → IsRange text.now address many → result ≡ Some (record { first = address; length = many }) }
 {

@@ -93,7 +93,7 @@ fn constant(query: &[u8]) -> &'static [u8] {
     }
 }
 
-/// The same, to be sent.
+/// That constant.
 fn constant_text(alloc: Global, query: &[u8]) -> Result<Vec<u8>, Memory> {
     Ok(constant(query).to_vec(alloc)?)
 }

@@ -105,7 +105,7 @@ impl Session {
             [kind, thread @ ..] => (*kind, thread),
             [] => return false,
         };
-        let is_any = thread == b"0".as_slice() || thread == b"-1".as_slice();
+        let is_any = matches!(thread, b"0" | b"-1");
         match read_thread(thread, self.line.harts()) {
             None => is_any,
             Some(hart) if kind == b'g' => {

@@ -18,9 +18,9 @@ pub(crate) enum Reason {
     End,
 }
 
-/// Puts a text.
-pub(crate) fn put_text(text: &mut Vec<u8>, piece: &[u8]) -> Result<(), Memory> {
-    text.extend_from_slice(piece)?;
+/// Puts bytes.
+pub(crate) fn put(text: &mut Vec<u8>, bytes: &[u8]) -> Result<(), Memory> {
+    text.extend_from_slice(bytes)?;
     Ok(())
 }
 

@@ -182,6 +182,13 @@ impl Timeline {
         self.last
     }
 
+    /// The plan.
+    pub fn plan(&self) -> &Plan
+        ensures { result.now.legs ≡ self.now.legs }
+    {
+        &self.plan
+    }
+
     /// The number of harts.
     pub fn harts(&self) -> u8
         ensures { result ≡ length self.now.now.machine.harts }
