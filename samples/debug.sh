@@ -70,7 +70,7 @@ else
     keep lua "$image"
     logs=("$work"/lua/log.*)
     number=$("$workbench" replay "$image" "${logs[@]}" | awk '$1 == "out" && $6 != "00000000" { print $2; exit }')
-    look "$image" "${logs[@]}" -- "file $elf" TARGET "monitor output 0 $number" 'watch answers[0]' reverse-continue bt > "$work/lua.said"
+    look "$image" "${logs[@]}" -- "file $elf" TARGET "monitor output 0 $number" 'maintenance flush register-cache' 'watch answers[0]' reverse-continue bt > "$work/lua.said"
     sed -n 's/^#[0-9]* *\(0x[0-9a-f]* in \)*\([a-z_A-Z]*\) (.* at .*lua\.c:\([0-9]*\)$/\2 \3/p' "$work/lua.said" | head -2 > "$work/frames"
     is 'the functions of Lua that put out the third answer' "$(printf 'put %s\nprint %s' "$(line_of 'answers\[printed++')" "$(line_of 'put(text\[byte\]')")" "$(cat "$work/frames")"
 fi
