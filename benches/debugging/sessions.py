@@ -178,11 +178,12 @@ class Line:
         return 0
 
     def after(self, moment, hart):
-        """The moment at which the hart has one step more."""
-        for later in range(moment + 1, len(self.steps) + 1):
-            if self.steps[later - 1][0] == hart:
-                return later
-        return len(self.steps)
+        """The moment at which the hart has one step more, if there is one."""
+        return next((later for later in range(moment + 1, len(self.steps) + 1) if self.steps[later - 1][0] == hart), moment)
+
+    def before(self, moment, hart):
+        """The moment from which the hart took its last step, if it took one."""
+        return next((earlier for earlier in range(moment - 1, -1, -1) if self.steps[earlier][0] == hart), moment)
 
 
 def points_by(chance, line):
@@ -231,8 +232,10 @@ def session(program, chance, line):
             debugger.ask("bc")
             moment = line.back(moment, points)
         elif how == 4:
+            hart = chance.randrange(line.harts)
+            debugger.ask(f"Hc{hart + 1}")
             debugger.ask("bs")
-            moment = max(moment - 1, 0)
+            moment = line.before(moment, hart)
         elif how == 5:
             hart = chance.randrange(line.harts)
             debugger.ask(f"vCont;s:{hart + 1}")

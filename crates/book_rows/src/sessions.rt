@@ -153,7 +153,7 @@ fn is_answered(
     wanted: &str,
 ) -> Result<bool, Memory> {
     match session.answer(alloc, packet.as_bytes())? {
-        Answer::Says(text) | Answer::SaysLast(text) => Ok(text == wanted.as_bytes()),
+        Answer::Says(text) | Answer::SaysLast(text) => Ok(text.as_slice() == wanted.as_bytes()),
         Answer::Over => Ok(false),
     }
 }
@@ -201,7 +201,7 @@ static WORDS: [(u32, &str); 22] = [
 fn mnemonics(rt: HostRuntime) -> Result<(), Fail> {
     for (word, wanted) in &WORDS {
         let text = mnemonic(rt.alloc(), 0x8000_0000, *word)?;
-        let right = text == wanted.as_bytes();
+        let right = text.as_slice() == wanted.as_bytes();
         if !right {
             println!(rt; "{wanted}")?;
         }

@@ -27,9 +27,10 @@ struct Outset {
     word: Option<u32>,
     /// What the word says.
     mnemonic: Vec<u8>,
-    access: Access,
-    /// The number that the bytes are which the step reads.
-    value: u32,
+    /// The bytes of RAM that the step reads, and the number that they are.
+    read: Option<(u32, u32)>,
+    /// The bytes that it writes.
+    written: Option<Bytes>,
 }
 
 /// The number that bytes of RAM are.
@@ -59,6 +60,33 @@ fn bytes_written(access: Access) -> Option<Bytes> {
     }
 }
 
+/// The hart, where the machine has it.
+fn hart_of(line: &Timeline, hart: Hart) -> Option<&HartState> {
+    if hart.number() < line.harts() {
+        Some(line.hart(hart))
+    } else {
+        None
+    }
+}
+
+/// What comes to the hart's next step.
+fn inputs_of(alloc: Global, line: &Timeline, hart: Hart) -> Result<Vec<Input>, Memory> {
+    if hart.number() < line.harts() {
+        Ok(line.inputs(hart).to_vec(alloc)?)
+    } else {
+        Ok(Vec::new(alloc))
+    }
+}
+
+/// The word at an address, where that is in RAM.
+fn word_of(line: &Timeline, address: u32) -> Option<u32> {
+    if address % 4 == 0 {
+        line.word(address)
+    } else {
+        None
+    }
+}
+
 fn mnemonic_of(alloc: Global, pc: u32, word: Option<u32>) -> Result<Vec<u8>, Memory> {
     match word {
         Some(word) => mnemonic(alloc, pc, word),
@@ -66,78 +94,105 @@ fn mnemonic_of(alloc: Global, pc: u32, word: Option<u32>) -> Result<Vec<u8>, Mem
     }
 }
 
-fn outset(alloc: Global, line: &Timeline, hart: Hart) -> Result<Outset, Memory> {
-    let state = line.hart(hart);
-    let access = line.access();
-    let word = line.word(state.pc());
-    Ok(Outset {
-        hart: state.without_outputs(),
-        outputs: state.outputs().len(),
-        inputs: line.inputs(hart).to_vec(alloc)?,
-        word,
-        mnemonic: mnemonic_of(alloc, state.pc(), word)?,
-        access,
-        value: match bytes_read(access) {
-            Some(bytes) => value_at(line, bytes),
-            None => 0,
-        },
-    })
-}
-
-/// What the step found and left outside its hart.
-fn found(line: &Timeline, hart: Hart, before: &Outset) -> Found {
-    let read = match bytes_read(before.access) {
-        Some(bytes) => Some((bytes.first, before.value)),
-        None => None,
-    };
-    let written = match bytes_written(before.access) {
+/// The bytes of RAM, with the number that they are.
+fn numbered(line: &Timeline, bytes: Option<Bytes>) -> Option<(u32, u32)> {
+    match bytes {
         Some(bytes) => Some((bytes.first, value_at(line, bytes))),
         None => None,
-    };
-    let output = match line.hart(hart).outputs().get(before.outputs) {
-        Some((_, word)) => Some(*word),
-        None => None,
-    };
-    Found {
-        read,
-        written,
-        output,
     }
 }
 
-/// The line of a step that was taken.
-fn step_line(
+/// What is known of the step of a hart in this state.
+fn outset_of(
     alloc: Global,
     line: &Timeline,
-    hart: Hart,
+    state: &HartState,
+    inputs: Vec<Input>,
+) -> Result<Outset, Memory> {
+    let access = line.access();
+    let word = word_of(line, state.pc());
+    Ok(Outset {
+        hart: state.without_outputs(),
+        outputs: state.outputs().len(),
+        inputs,
+        word,
+        mnemonic: mnemonic_of(alloc, state.pc(), word)?,
+        read: numbered(line, bytes_read(access)),
+        written: bytes_written(access),
+    })
+}
+
+/// What is known of the hart's next step.
+fn outset(alloc: Global, line: &Timeline, hart: Hart) -> Result<Option<Outset>, Memory> {
+    let inputs = inputs_of(alloc, line, hart)?;
+    match hart_of(line, hart) {
+        Some(state) => Ok(Some(outset_of(alloc, line, state, inputs)?)),
+        None => Ok(None),
+    }
+}
+
+/// The word that the hart has put out behind so many.
+fn output_behind(state: &HartState, outputs: usize) -> Option<u32> {
+    match state.outputs().get(outputs) {
+        Some((_, word)) => Some(*word),
+        None => None,
+    }
+}
+
+/// Adds the line of the step that led the hart to this state.
+fn add_line(
+    text: &mut Vec<u8>,
+    line: &Timeline,
     before: &Outset,
-) -> Result<Vec<u8>, Memory> {
-    let mut text = Vec::new(alloc);
+    after: &HartState,
+) -> Result<(), Memory> {
+    let found = Found {
+        read: before.read,
+        written: numbered(line, before.written),
+        output: output_behind(after, before.outputs),
+    };
     add_step_line(
-        &mut text,
+        text,
         &before.hart,
         &before.inputs,
-        line.hart(hart),
+        after,
         before.word,
-        found(line, hart, before),
+        found,
         &before.mnemonic,
-    )?;
+    )
+}
+
+/// The line of a step that the hart has taken.
+fn line_of(alloc: Global, line: &Timeline, hart: Hart, before: &Outset) -> Result<Vec<u8>, Memory> {
+    let mut text = Vec::new(alloc);
+    if let Some(after) = hart_of(line, hart) {
+        add_line(&mut text, line, before, after)?;
+    }
     Ok(text)
 }
 
-/// Takes the hart's step, which comes next, and writes its line.
+/// Takes the step that comes next. False where there is none.
+fn go_forward(line: &mut Timeline) -> Result<bool, CommandFault> {
+    match line.forward() {
+        Ok(is_done) => Ok(is_done),
+        Err(fault) => Err(replayed(fault)),
+    }
+}
+
+/// Takes the hart's step, which comes next, and writes its line. False where there is none.
 fn trace_step<W: Sink>(
     alloc: Global,
     line: &mut Timeline,
     hart: Hart,
     out: &mut W,
-) -> Result<(), CommandFault> {
-    let before = outset(alloc, line, hart)?;
-    if let Err(fault) = line.forward() {
-        return Err(replayed(fault));
-    }
-    let text = step_line(alloc, line, hart, &before)?;
-    written(write_all(out, &text))
+) -> Result<bool, CommandFault> {
+    let Some(before) = outset(alloc, line, hart)? else {
+        return Ok(false);
+    };
+    let is_done = go_forward(line)?;
+    let text = line_of(alloc, line, hart, &before)?;
+    written(write_all(out, &text))?;
+    Ok(is_done)
 }
 
 /// Takes the step that comes next, and writes its line where it is the hart's. False where there is none.
@@ -147,21 +202,22 @@ fn trace_next<W: Sink>(
     hart: Hart,
     out: &mut W,
 ) -> Result<bool, CommandFault> {
-    if line.next() == Some(hart) {
-        trace_step(alloc, line, hart, out)?;
-        return Ok(true);
+    match line.next() {
+        Some(next) if next == hart => trace_step(alloc, line, hart, out),
+        _ => go_forward(line),
     }
-    match line.forward() {
-        Ok(is_done) => Ok(is_done),
-        Err(fault) => Err(replayed(fault)),
+}
+
+/// How many steps the hart has taken.
+fn count_of(line: &Timeline, hart: Hart) -> Count {
+    match hart_of(line, hart) {
+        Some(state) => state.count(),
+        None => 0,
     }
 }
 
 /// Goes to the hart's place.
 fn go_to(line: &mut Timeline, place: Place) -> Result<(), CommandFault> {
-    if place.hart.number() >= line.harts() {
-        return Err(CommandFault::NoStep(place));
-    }
     match line.go_to_count(place.hart, place.count) {
         Ok(true) => Ok(()),
         Ok(false) => Err(CommandFault::NoStep(place)),
@@ -180,7 +236,7 @@ fn trace_line<W: Sink>(
     go_to(line, from)?;
     let hart = from.hart;
     for _step in 0..u64::MAX {
-        if line.hart(hart).count() >= to {
+        if count_of(line, hart) >= to {
             break;
         }
         if !trace_next(alloc, line, hart, out)? {

@@ -22,11 +22,15 @@ AsksForAnother packet = (kind : ℕ) × (rest : List ℕ) × Contains (codes "GP
 abbrev pub AsksForRegister : List ℕ → ℕ → Type 0
 AsksForRegister packet n = (number : List ℕ) × (packet ≡ 112 ∷ number) × IsHex number n
 
--- `m A,L`
-pub record AsksForMemory (packet : List ℕ) (address many : ℕ) : Type 0 where
+-- `A,L`: an address and a length
+pub record IsRange (text : List ℕ) (address many : ℕ) : Type 0 where
   pub first : List ℕ
-  pub length : List ℕ
+  pub behind : List ℕ
   pub one : HasNone 44 first
-  pub is : packet ≡ 109 ∷ first ++ 44 ∷ length
+  pub is : text ≡ first ++ 44 ∷ behind
   pub address_is : IsHex first address
-  pub many_is : IsHex length many
+  pub many_is : IsHex behind many
+
+-- `m A,L`
+abbrev pub AsksForMemory : List ℕ → ℕ → ℕ → Type 0
+AsksForMemory packet address many = (range : List ℕ) × (packet ≡ 109 ∷ range) × IsRange range address many

@@ -18,8 +18,10 @@ abbrev pub IsShown : SessionView → Hart → Type 0
 IsShown s h = slice_get s.line.now.machine.harts s.shown ≡ Some h
 
 -- the same line of the same plan, wherever it stands
-abbrev pub IsOfLine : LineView → LineView → Type 0
-IsOfLine b c = c ≡ record b { now = c.now }
+pub record IsOfLine (b c : LineView) : Type 0 where
+  pub guest : c.guest ≡ b.guest
+  pub legs : c.legs ≡ b.legs
+  pub start : c.start ≡ b.start
 
 -- it stands at the first moment at which the hart has so many steps
 pub record IsFirstWith (t : LineView) (hart count : ℕ) : Type 0 where

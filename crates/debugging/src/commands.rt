@@ -1,9 +1,9 @@
 //! What packets ask for.
 
-ghost use Rattle.std.specs.Prelude.{◌≡◌, ℕ, ◌∷◌, codes};
+ghost use Rattle.std.specs.Prelude.{◌≡◌, ℕ, codes};
 ghost use Rattle.debugging.specs.declared.commands.Command.TheVariants as Command;
 ghost use Rattle.debugging.specs.declared.commands.Show.TheVariants as Show;
-ghost use Rattle.debugging.specs.Asked.{IsHex, AsksForAnother, AsksForRegister, AsksForMemory};
+ghost use Rattle.debugging.specs.Asked.{IsHex, IsRange, AsksForAnother, AsksForRegister, AsksForMemory};
 
 use crate::numbers::{cut, read_hex, read_range};
 use crate::points::read_point;
@@ -105,7 +105,7 @@ fn read_points(packet: &[u8]) -> Command<'_> {
 
 /// Of a packet that asks for memory.
 fn read_memory(range: &[u8]) -> Command<'_>
-    ensures { (address many : ℕ) → AsksForMemory (109 ∷ range.now) address many → result ≡ Command.Show (Show.Memory (record { first = address; length = many })) }
+    ensures { (address many : ℕ) → IsRange range.now address many → result ≡ Command.Show (Show.Memory (record { first = address; length = many })) }
 {
     match read_range(range) {
         Some(bytes) => Command::Show(Show::Memory(bytes)),

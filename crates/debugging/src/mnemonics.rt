@@ -35,23 +35,8 @@ enum Form {
     Atomic,
 }
 
-/// Words of one name: those that are `bits` under `mask`.
-#[derive(Clone, Copy)]
-struct Row {
-    mask: u32,
-    bits: u32,
-    name: [u8; 9],
-    form: Form,
-}
-
-const fn row(mask: u32, bits: u32, name: [u8; 9], form: Form) -> Row {
-    Row {
-        mask,
-        bits,
-        name,
-        form,
-    }
-}
+/// Words of one name: those that under the mask have these bits; the name, with spaces behind it; what stands behind that.
+type Row = (u32, u32, [u8; 9], Form);
 
 /// opcode.
 const OPCODE: u32 = 0x7f;
@@ -69,77 +54,78 @@ const FUNCT5: u32 = 0xf800_707f;
 const WHOLE: u32 = 0xffff_ffff;
 
 static ROWS: [Row; 65] = [
-    row(OPCODE, 0x0000_0037, *b"lui      ", Form::Upper),
-    row(OPCODE, 0x0000_0017, *b"auipc    ", Form::Upper),
-    row(OPCODE, 0x0000_006f, *b"jal      ", Form::Jump),
-    row(FUNCT3, 0x0000_0067, *b"jalr     ", Form::Load),
-    row(FUNCT3, 0x0000_0063, *b"beq      ", Form::Branch),
-    row(FUNCT3, 0x0000_1063, *b"bne      ", Form::Branch),
-    row(FUNCT3, 0x0000_4063, *b"blt      ", Form::Branch),
-    row(FUNCT3, 0x0000_5063, *b"bge      ", Form::Branch),
-    row(FUNCT3, 0x0000_6063, *b"bltu     ", Form::Branch),
-    row(FUNCT3, 0x0000_7063, *b"bgeu     ", Form::Branch),
-    row(FUNCT3, 0x0000_0003, *b"lb       ", Form::Load),
-    row(FUNCT3, 0x0000_1003, *b"lh       ", Form::Load),
-    row(FUNCT3, 0x0000_2003, *b"lw       ", Form::Load),
-    row(FUNCT3, 0x0000_4003, *b"lbu      ", Form::Load),
-    row(FUNCT3, 0x0000_5003, *b"lhu      ", Form::Load),
-    row(FUNCT3, 0x0000_0023, *b"sb       ", Form::Store),
-    row(FUNCT3, 0x0000_1023, *b"sh       ", Form::Store),
-    row(FUNCT3, 0x0000_2023, *b"sw       ", Form::Store),
-    row(FUNCT3, 0x0000_0013, *b"addi     ", Form::Immediate),
-    row(FUNCT3, 0x0000_2013, *b"slti     ", Form::Immediate),
-    row(FUNCT3, 0x0000_3013, *b"sltiu    ", Form::Immediate),
-    row(FUNCT3, 0x0000_4013, *b"xori     ", Form::Immediate),
-    row(FUNCT3, 0x0000_6013, *b"ori      ", Form::Immediate),
-    row(FUNCT3, 0x0000_7013, *b"andi     ", Form::Immediate),
-    row(FUNCT7, 0x0000_1013, *b"slli     ", Form::Shift),
-    row(FUNCT7, 0x0000_5013, *b"srli     ", Form::Shift),
-    row(FUNCT7, 0x4000_5013, *b"srai     ", Form::Shift),
-    row(FUNCT7, 0x0000_0033, *b"add      ", Form::Registers),
-    row(FUNCT7, 0x4000_0033, *b"sub      ", Form::Registers),
-    row(FUNCT7, 0x0000_1033, *b"sll      ", Form::Registers),
-    row(FUNCT7, 0x0000_2033, *b"slt      ", Form::Registers),
-    row(FUNCT7, 0x0000_3033, *b"sltu     ", Form::Registers),
-    row(FUNCT7, 0x0000_4033, *b"xor      ", Form::Registers),
-    row(FUNCT7, 0x0000_5033, *b"srl      ", Form::Registers),
-    row(FUNCT7, 0x4000_5033, *b"sra      ", Form::Registers),
-    row(FUNCT7, 0x0000_6033, *b"or       ", Form::Registers),
-    row(FUNCT7, 0x0000_7033, *b"and      ", Form::Registers),
-    row(FUNCT7, 0x0200_0033, *b"mul      ", Form::Registers),
-    row(FUNCT7, 0x0200_1033, *b"mulh     ", Form::Registers),
-    row(FUNCT7, 0x0200_2033, *b"mulhsu   ", Form::Registers),
-    row(FUNCT7, 0x0200_3033, *b"mulhu    ", Form::Registers),
-    row(FUNCT7, 0x0200_4033, *b"div      ", Form::Registers),
-    row(FUNCT7, 0x0200_5033, *b"divu     ", Form::Registers),
-    row(FUNCT7, 0x0200_6033, *b"rem      ", Form::Registers),
-    row(FUNCT7, 0x0200_7033, *b"remu     ", Form::Registers),
-    row(FUNCT3, 0x0000_000f, *b"fence    ", Form::Bare),
-    row(WHOLE, 0x0000_0073, *b"ecall    ", Form::Bare),
-    row(WHOLE, 0x0010_0073, *b"ebreak   ", Form::Bare),
-    row(WHOLE, 0x3020_0073, *b"mret     ", Form::Bare),
-    row(WHOLE, 0x1050_0073, *b"wfi      ", Form::Bare),
-    row(FUNCT3, 0x0000_1073, *b"csrrw    ", Form::CsrRegister),
-    row(FUNCT3, 0x0000_2073, *b"csrrs    ", Form::CsrRegister),
-    row(FUNCT3, 0x0000_3073, *b"csrrc    ", Form::CsrRegister),
-    row(FUNCT3, 0x0000_5073, *b"csrrwi   ", Form::CsrImmediate),
-    row(FUNCT3, 0x0000_6073, *b"csrrsi   ", Form::CsrImmediate),
-    row(FUNCT3, 0x0000_7073, *b"csrrci   ", Form::CsrImmediate),
-    row(FUNCT5, 0x0800_202f, *b"amoswap.w", Form::Atomic),
-    row(FUNCT5, 0x0000_202f, *b"amoadd.w ", Form::Atomic),
-    row(FUNCT5, 0x2000_202f, *b"amoxor.w ", Form::Atomic),
-    row(FUNCT5, 0x6000_202f, *b"amoand.w ", Form::Atomic),
-    row(FUNCT5, 0x4000_202f, *b"amoor.w  ", Form::Atomic),
-    row(FUNCT5, 0x8000_202f, *b"amomin.w ", Form::Atomic),
-    row(FUNCT5, 0xa000_202f, *b"amomax.w ", Form::Atomic),
-    row(FUNCT5, 0xc000_202f, *b"amominu.w", Form::Atomic),
-    row(FUNCT5, 0xe000_202f, *b"amomaxu.w", Form::Atomic),
+    (OPCODE, 0x0000_0037, *b"lui      ", Form::Upper),
+    (OPCODE, 0x0000_0017, *b"auipc    ", Form::Upper),
+    (OPCODE, 0x0000_006f, *b"jal      ", Form::Jump),
+    (FUNCT3, 0x0000_0067, *b"jalr     ", Form::Load),
+    (FUNCT3, 0x0000_0063, *b"beq      ", Form::Branch),
+    (FUNCT3, 0x0000_1063, *b"bne      ", Form::Branch),
+    (FUNCT3, 0x0000_4063, *b"blt      ", Form::Branch),
+    (FUNCT3, 0x0000_5063, *b"bge      ", Form::Branch),
+    (FUNCT3, 0x0000_6063, *b"bltu     ", Form::Branch),
+    (FUNCT3, 0x0000_7063, *b"bgeu     ", Form::Branch),
+    (FUNCT3, 0x0000_0003, *b"lb       ", Form::Load),
+    (FUNCT3, 0x0000_1003, *b"lh       ", Form::Load),
+    (FUNCT3, 0x0000_2003, *b"lw       ", Form::Load),
+    (FUNCT3, 0x0000_4003, *b"lbu      ", Form::Load),
+    (FUNCT3, 0x0000_5003, *b"lhu      ", Form::Load),
+    (FUNCT3, 0x0000_0023, *b"sb       ", Form::Store),
+    (FUNCT3, 0x0000_1023, *b"sh       ", Form::Store),
+    (FUNCT3, 0x0000_2023, *b"sw       ", Form::Store),
+    (FUNCT3, 0x0000_0013, *b"addi     ", Form::Immediate),
+    (FUNCT3, 0x0000_2013, *b"slti     ", Form::Immediate),
+    (FUNCT3, 0x0000_3013, *b"sltiu    ", Form::Immediate),
+    (FUNCT3, 0x0000_4013, *b"xori     ", Form::Immediate),
+    (FUNCT3, 0x0000_6013, *b"ori      ", Form::Immediate),
+    (FUNCT3, 0x0000_7013, *b"andi     ", Form::Immediate),
+    (FUNCT7, 0x0000_1013, *b"slli     ", Form::Shift),
+    (FUNCT7, 0x0000_5013, *b"srli     ", Form::Shift),
+    (FUNCT7, 0x4000_5013, *b"srai     ", Form::Shift),
+    (FUNCT7, 0x0000_0033, *b"add      ", Form::Registers),
+    (FUNCT7, 0x4000_0033, *b"sub      ", Form::Registers),
+    (FUNCT7, 0x0000_1033, *b"sll      ", Form::Registers),
+    (FUNCT7, 0x0000_2033, *b"slt      ", Form::Registers),
+    (FUNCT7, 0x0000_3033, *b"sltu     ", Form::Registers),
+    (FUNCT7, 0x0000_4033, *b"xor      ", Form::Registers),
+    (FUNCT7, 0x0000_5033, *b"srl      ", Form::Registers),
+    (FUNCT7, 0x4000_5033, *b"sra      ", Form::Registers),
+    (FUNCT7, 0x0000_6033, *b"or       ", Form::Registers),
+    (FUNCT7, 0x0000_7033, *b"and      ", Form::Registers),
+    (FUNCT7, 0x0200_0033, *b"mul      ", Form::Registers),
+    (FUNCT7, 0x0200_1033, *b"mulh     ", Form::Registers),
+    (FUNCT7, 0x0200_2033, *b"mulhsu   ", Form::Registers),
+    (FUNCT7, 0x0200_3033, *b"mulhu    ", Form::Registers),
+    (FUNCT7, 0x0200_4033, *b"div      ", Form::Registers),
+    (FUNCT7, 0x0200_5033, *b"divu     ", Form::Registers),
+    (FUNCT7, 0x0200_6033, *b"rem      ", Form::Registers),
+    (FUNCT7, 0x0200_7033, *b"remu     ", Form::Registers),
+    (FUNCT3, 0x0000_000f, *b"fence    ", Form::Bare),
+    (WHOLE, 0x0000_0073, *b"ecall    ", Form::Bare),
+    (WHOLE, 0x0010_0073, *b"ebreak   ", Form::Bare),
+    (WHOLE, 0x3020_0073, *b"mret     ", Form::Bare),
+    (WHOLE, 0x1050_0073, *b"wfi      ", Form::Bare),
+    (FUNCT3, 0x0000_1073, *b"csrrw    ", Form::CsrRegister),
+    (FUNCT3, 0x0000_2073, *b"csrrs    ", Form::CsrRegister),
+    (FUNCT3, 0x0000_3073, *b"csrrc    ", Form::CsrRegister),
+    (FUNCT3, 0x0000_5073, *b"csrrwi   ", Form::CsrImmediate),
+    (FUNCT3, 0x0000_6073, *b"csrrsi   ", Form::CsrImmediate),
+    (FUNCT3, 0x0000_7073, *b"csrrci   ", Form::CsrImmediate),
+    (FUNCT5, 0x0800_202f, *b"amoswap.w", Form::Atomic),
+    (FUNCT5, 0x0000_202f, *b"amoadd.w ", Form::Atomic),
+    (FUNCT5, 0x2000_202f, *b"amoxor.w ", Form::Atomic),
+    (FUNCT5, 0x6000_202f, *b"amoand.w ", Form::Atomic),
+    (FUNCT5, 0x4000_202f, *b"amoor.w  ", Form::Atomic),
+    (FUNCT5, 0x8000_202f, *b"amomin.w ", Form::Atomic),
+    (FUNCT5, 0xa000_202f, *b"amomax.w ", Form::Atomic),
+    (FUNCT5, 0xc000_202f, *b"amominu.w", Form::Atomic),
+    (FUNCT5, 0xe000_202f, *b"amomaxu.w", Form::Atomic),
 ];
 
 /// The row of a word.
 fn row_of(word: u32) -> Option<Row> {
     for row in &ROWS {
-        if word & row.mask == row.bits {
+        let (mask, bits, _, _) = *row;
+        if word & mask == bits {
             return Some(*row);
         }
     }
@@ -205,10 +191,10 @@ fn put_address(text: &mut Vec<u8>, word: u32, distance: u32) -> Result<(), Memor
 }
 
 /// Puts a name, with what orders an atomic operation, and a space behind it where more follows.
-fn put_name(text: &mut Vec<u8>, word: u32, row: &Row) -> Result<(), Memory> {
-    text.extend_from_slice(trimmed(&row.name))?;
-    let order: &[u8] = match (row.form, word >> 25 & 3) {
-        (Form::Bare, _) => return Ok(()),
+fn put_name(text: &mut Vec<u8>, word: u32, name: &[u8], form: Form) -> Result<(), Memory> {
+    text.extend_from_slice(trimmed(name))?;
+    let order: &[u8] = match (form, word >> 25 & 3) {
+        (Form::Bare, _) => b"",
         (Form::Atomic, 1) => b".rl ",
         (Form::Atomic, 2) => b".aq ",
         (Form::Atomic, 3) => b".aqrl ",
@@ -266,10 +252,10 @@ fn first_registers(form: Form) -> &'static [u32] {
 pub fn mnemonic(alloc: Global, pc: u32, word: u32) -> Result<Vec<u8>, Memory> {
     let mut text = Vec::new(alloc);
     match row_of(word) {
-        Some(row) if decode(word).is_some() => {
-            put_name(&mut text, word, &row)?;
-            put_registers(&mut text, word, first_registers(row.form))?;
-            put_rest(&mut text, pc, word, row.form)?;
+        Some((_, _, name, form)) if decode(word).is_some() => {
+            put_name(&mut text, word, &name, form)?;
+            put_registers(&mut text, word, first_registers(form))?;
+            put_rest(&mut text, pc, word, form)?;
         }
         _ => text.extend_from_slice(b"illegal")?,
     }

@@ -8,7 +8,7 @@ use crate::numbers::{cut, read_hex};
 use crate::queries::{hex_text, put_hart};
 use crate::runs::{count_of, hart_at, last_touch};
 use crate::session::Session;
-use crate::stops::put_number;
+use crate::stops::{put, put_number};
 use ft_types::{Count, Hart, Memory, read_number};
 use hart_replay::{PlannedLeg, ReplayFault};
 use hex::FromHexError;
@@ -78,6 +78,7 @@ fn read_watched(text: &[u8]) -> Option<Bytes> {
 }
 
 /// The step at which the hart puts out the output with this number: the line stands anywhere then.
+#[tactic(auto, using(crate::proofs::Lines::led_on))]
 fn output_step(line: &mut Timeline, hart: Hart, number: u64) -> Result<Option<Count>, ReplayFault>
     ensures line { IsOfLine line.old line.new }
 {
@@ -164,6 +165,7 @@ fn put_touch(text: &mut Vec<u8>, touch: Touch) -> Result<(), Memory> {
 
 impl Session {
     /// Goes to a step of a hart, where there is one, and else back to where it stood.
+    #[tactic(auto, using(crate::proofs::Lines::led_on))]
     fn go_to_step(
         &mut self,
         text: &mut Vec<u8>,
@@ -183,10 +185,11 @@ impl Session {
             return Ok(put_place(text, &self.line)?);
         }
         self.line.go_to(now)?;
-        Ok(text.extend_from_slice(b"no such step\n")?)
+        Ok(put(text, b"no such step\n")?)
     }
 
     /// Says who wrote the word last.
+    #[tactic(auto, using(crate::proofs::Lines::led_on))]
     fn tell_writer(&mut self, text: &mut Vec<u8>, word: Bytes) -> Result<(), ReplayFault>
         ensures line { IsOfLine self.old.line self.new.line }
     {
@@ -195,11 +198,12 @@ impl Session {
         self.line.go_to(now)?;
         match found {
             Some((hart, count)) => Ok(put_step(text, b"written by", hart, count)?),
-            None => Ok(text.extend_from_slice(b"not written\n")?),
+            None => Ok(put(text, b"not written\n")?),
         }
     }
 
     /// Says which two steps of two harts touched the word last, of which one wrote it.
+    #[tactic(auto, using(crate::proofs::Lines::led_on))]
     fn tell_race(&mut self, text: &mut Vec<u8>, word: Bytes) -> Result<(), ReplayFault>
         ensures line { IsOfLine self.old.line self.new.line }
     {
@@ -207,7 +211,7 @@ impl Session {
         let found = last_race(&mut self.line, word)?;
         self.line.go_to(now)?;
         let Some((earlier, later)) = found else {
-            return Ok(text.extend_from_slice(b"no race\n")?);
+            return Ok(put(text, b"no race\n")?);
         };
         put_touch(text, earlier)?;
         Ok(put_touch(text, later)?)
@@ -234,7 +238,7 @@ impl Session {
             }
             (b"who", _, Some(word)) => self.tell_writer(text, word),
             (b"race", _, Some(word)) => self.tell_race(text, word),
-            _ => Ok(text.extend_from_slice(HELP)?),
+            _ => Ok(put(text, HELP)?),
         }
     }
 
@@ -246,7 +250,7 @@ impl Session {
         match hex::decode(alloc, digits) {
             Ok(command) => self.tell_of(&mut text, &command)?,
             Err(FromHexError::OutOfMemory) => return Err(ReplayFault::Memory),
-            Err(_) => text.extend_from_slice(HELP)?,
+            Err(_) => put(&mut text, HELP)?,
         }
         Ok(hex_text(alloc, &text)?)
     }

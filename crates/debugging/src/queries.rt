@@ -93,6 +93,11 @@ fn constant(query: &[u8]) -> &'static [u8] {
     }
 }
 
+/// That constant.
+fn constant_text(alloc: Global, query: &[u8]) -> Result<Vec<u8>, Memory> {
+    Ok(constant(query).to_vec(alloc)?)
+}
+
 impl Session {
     /// What the query is answered.
     pub(crate) fn ask(&mut self, alloc: Global, query: &[u8]) -> Result<Vec<u8>, ReplayFault>
@@ -110,7 +115,7 @@ impl Session {
         match query {
             b"qfThreadInfo" => Ok(threads_text(alloc, self.line.harts())?),
             b"qC" => Ok(chosen_text(alloc, self.shown)?),
-            _ => Ok(constant(query).to_vec(alloc)?),
+            _ => Ok(constant_text(alloc, query)?),
         }
     }
 }

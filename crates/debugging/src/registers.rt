@@ -63,7 +63,8 @@ pub(crate) fn registers_text(alloc: Global, hart: &HartState) -> Result<Vec<u8>,
 {
     let mut text = Vec::new(alloc);
     put_word(&mut text, 0)?;
-    for word in hart.registers() {
+    let words = hart.registers();
+    for word in words {
         put_word(&mut text, *word)?;
     }
     put_word(&mut text, hart.pc())?;

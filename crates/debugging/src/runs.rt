@@ -44,21 +44,23 @@ fn next_hart(line: &Timeline, otherwise: Hart) -> Hart {
 }
 
 /// The hart of the step before; this one, where there was none.
+#[tactic(auto, using(crate::proofs::Lines::led_on))]
 fn last_hart(line: &mut Timeline, otherwise: Hart) -> Result<Hart, ReplayFault>
     ensures line { IsOfLine line.old line.new }
     ensures there { OnOk result (line.new.now.moment ≡ line.old.now.moment) }
 {
-    let now = line.now();
-    if now == 0 {
+    let here = line.now();
+    if here == 0 {
         return Ok(otherwise);
     }
-    line.go_to(now - 1)?;
+    line.go_to(here - 1)?;
     let hart = next_hart(line, otherwise);
-    line.go_to(now)?;
+    line.go_to(here)?;
     Ok(hart)
 }
 
 /// On to the first moment at which the hart has one step more. Whether there is one.
+#[tactic(auto, using(crate::proofs::Lines::led_on))]
 pub(crate) fn step(line: &mut Timeline, hart: Hart) -> Result<bool, ReplayFault>
     ensures line { IsOfLine line.old line.new }
     ensures led { IfOk result (λ led. led ≡ true → IsFirstWith line.new hart (counts_of line.old.now.machine hart + 1)) }
@@ -69,6 +71,7 @@ pub(crate) fn step(line: &mut Timeline, hart: Hart) -> Result<bool, ReplayFault>
 }
 
 /// Back to where the hart's last step comes next. Whether there was one.
+#[tactic(auto, using(crate::proofs::Lines::led_on))]
 pub(crate) fn step_back(line: &mut Timeline, hart: Hart) -> Result<bool, ReplayFault>
     ensures line { IsOfLine line.old line.new }
     ensures led { IfOk result (λ led. led ≡ true → IsBeforeStep line.new hart (counts_of line.old.now.machine hart)) }
@@ -94,6 +97,7 @@ fn reason_at(points: &[Point], number: usize) -> Reason {
 }
 
 /// On to a point or to the end.
+#[tactic(auto, using(crate::proofs::Lines::led_on))]
 fn go_on(line: &mut Timeline, points: &[Point], hart: Hart) -> Result<Arrival, ReplayFault>
     ensures line { IsOfLine line.old line.new }
 {
@@ -109,6 +113,7 @@ fn go_on(line: &mut Timeline, points: &[Point], hart: Hart) -> Result<Arrival, R
 }
 
 /// Back to a point or to the beginning.
+#[tactic(auto, using(crate::proofs::Lines::led_on))]
 fn go_back(line: &mut Timeline, points: &[Point], hart: Hart) -> Result<Arrival, ReplayFault>
     ensures line { IsOfLine line.old line.new }
 {
@@ -140,6 +145,7 @@ pub(crate) fn go(
 }
 
 /// The step that touched what the point watches last, by its hart and count. The line stands before it then.
+#[tactic(auto, using(crate::proofs::Lines::led_on))]
 pub(crate) fn last_touch(
     line: &mut Timeline,
     point: Point,

@@ -1,10 +1,12 @@
 //! A session: what is asked, and what is answered.
 
-ghost use Rattle.std.specs.Prelude.{◌≡◌, ℕ, IfOk, codes, option_map};
+ghost use Rattle.std.specs.Prelude.{◌≡◌, ℕ, List, IfOk, Some, codes, option_map};
+ghost use Rattle.moments.specs.declared.access.Bytes.{Bytes};
 ghost use Rattle.rv32_hart.specs.Hart.{Hart as HartRecord};
 ghost use Rattle.debugging.specs.declared.commands.Show.TheVariants as ShowOf;
 ghost use Rattle.debugging.specs.Shown.{word_digits, registers_text, register_at, or_wrong};
-ghost use Rattle.debugging.specs.Asked.{AsksForAnother, AsksForRegister};
+ghost use Rattle.debugging.specs.Memories.{ShowsBytes, memory_answer};
+ghost use Rattle.debugging.specs.Asked.{AsksForAnother, AsksForRegister, AsksForMemory};
 ghost use Rattle.debugging.specs.Sessions.{IsShown, IsOfLine};
 ghost use Rattle.debugging.specs.Answers.{Says};
 
@@ -103,7 +105,7 @@ impl Session {
             [kind, thread @ ..] => (*kind, thread),
             [] => return false,
         };
-        let is_any = thread == b"0" || thread == b"-1";
+        let is_any = matches!(thread, b"0" | b"-1");
         match read_thread(thread, self.line.harts()) {
             None => is_any,
             Some(hart) if kind == b'g' => {
@@ -128,20 +130,34 @@ impl Session {
         Ok(stop_text(alloc, arrival.hart, arrival.reason)?)
     }
 
+    /// What shows the chosen hart so, or nothing.
+    fn show_hart(&self, alloc: Global, show: Show) -> Result<Option<Vec<u8>>, Memory>
+        ensures registers { (h : HartRecord) → show ≡ ShowOf.Registers → IsShown self.now h →
+            IfOk result (λ text. option_map (λ t. t.items) text ≡ Some (registers_text h)) }
+        ensures register { (h : HartRecord) (n : ℕ) → show ≡ ShowOf.Register n → IsShown self.now h →
+            IfOk result (λ text. option_map (λ t. t.items) text ≡ option_map word_digits (register_at h n)) }
+    {
+        let Some(hart) = hart_at(&self.line, self.shown) else {
+            return Ok(None);
+        };
+        match show {
+            Show::Why | Show::Memory(_) => Ok(Some(stop_text(alloc, self.shown, Reason::Led)?)),
+            Show::Registers => Ok(Some(registers_text(alloc, hart)?)),
+            Show::Register(number) => register_text(alloc, hart, number),
+        }
+    }
+
     /// What shows the machine so.
     fn show(&self, alloc: Global, show: Show) -> Result<Vec<u8>, Memory>
         ensures registers { (h : HartRecord) → show ≡ ShowOf.Registers → IsShown self.now h → IfOk result (λ text. text.items ≡ registers_text h) }
         ensures register { (h : HartRecord) (n : ℕ) → show ≡ ShowOf.Register n → IsShown self.now h →
             IfOk result (λ text. text.items ≡ or_wrong (option_map word_digits (register_at h n))) }
+        ensures memory { (range : Bytes) → show ≡ ShowOf.Memory range → IfOk result (λ text. (bytes : List ℕ) ×
+            ShowsBytes self.now.line.now.machine.pages range.first range.length bytes × (text.items ≡ memory_answer range.length bytes)) }
     {
-        let Some(hart) = hart_at(&self.line, self.shown) else {
-            return Ok(WRONG.to_vec(alloc)?);
-        };
         match show {
-            Show::Why => stop_text(alloc, self.shown, Reason::Led),
-            Show::Registers => registers_text(alloc, hart),
-            Show::Register(number) => or_wrong(alloc, register_text(alloc, hart, number)?),
-            Show::Memory(range) => or_wrong(alloc, memory_text(alloc, &self.line, range)?),
+            Show::Memory(range) => memory_text(alloc, &self.line, range),
+            _ => or_wrong(alloc, self.show_hart(alloc, show)?),
         }
     }
 
@@ -196,6 +212,9 @@ impl Session {
             IfOk result (Says (registers_text h)) × (self.new ≡ self.old) }
         ensures register { (h : HartRecord) (n : ℕ) → AsksForRegister packet.now n → IsShown self.old h →
             IfOk result (Says (or_wrong (option_map word_digits (register_at h n)))) × (self.new ≡ self.old) }
+
+        ensures memory { (address many : ℕ) → AsksForMemory packet.now address many → IfOk result (λ a. (bytes : List ℕ) ×
+            ShowsBytes self.old.line.now.machine.pages address many bytes × Says (memory_answer many bytes) a) × (self.new ≡ self.old) }
 
         // The past is not changed.
         ensures another { AsksForAnother packet.now → IfOk result (Says (codes "E01")) × (self.new ≡ self.old) }

@@ -18,6 +18,12 @@ pub(crate) enum Reason {
     End,
 }
 
+/// Puts bytes.
+pub(crate) fn put(text: &mut Vec<u8>, bytes: &[u8]) -> Result<(), Memory> {
+    text.extend_from_slice(bytes)?;
+    Ok(())
+}
+
 /// Puts a number.
 pub(crate) fn put_number(text: &mut Vec<u8>, number: u64) -> Result<(), Memory> {
     let mut digits = LineBuffer::new();

@@ -5,17 +5,8 @@ use Rattle.guest_image.specs.Machine.{MachineState}
 use Rattle.hart_lease.specs.Runs.{counts_of}
 use Rattle.hart_replay.specs.declared.plans.PlannedLeg.{PlannedLeg}
 use Rattle.moments.specs.Line.{MayGo, ComesFirst, IsNext, NoneMayGo}
+use Rattle.moments.specs.machinery.Choices.{IsFirstOf, Chosen}
 use Rattle.moments.proofs.Moves.{runs_there}
-
--- of the first harts it is the first that may go
-pub record IsFirstOf (leg : PlannedLeg) (m : MachineState) (many hart : ℕ) : Type 0 where
-  pub below : hart < many
-  pub may : MayGo leg m hart
-  pub first : (other : ℕ) → other < many → MayGo leg m other → ComesFirst m hart other
-
-abbrev pub Chosen : PlannedLeg → MachineState → ℕ → Option ℕ → Type 0
-Chosen leg m many None = (other : ℕ) → other < many → MayGo leg m other → ⊥
-Chosen leg m many (Some hart) = IsFirstOf leg m many hart
 
 -- the hart has fewer steps than the one so far
 abbrev pub CountsLess : MachineState → ℕ → Option ℕ → Type 0
@@ -59,12 +50,12 @@ module _ (leg : PlannedLeg) (m : MachineState) (many : ℕ) where
   pub chosen_still : (next : Option ℕ) → Chosen leg m many next → (MayGo leg m many → NotLess m many next) → Chosen leg m (many + 1) next
   chosen_still None none not =
       λ other lt goes.
-          elim (cases_lt other many) [
-            | inl before ↦ none other before goes
-            | inr le ↦
-                let same : other ≡ many = omega (arith, lt, le) in
-                not (subst (λ (h : ℕ). MayGo leg m h) same goes)
-          ]
+      elim (cases_lt other many) [
+        | inl before ↦ none other before goes
+        | inr le ↦
+            let same : other ≡ many = omega (arith, lt, le) in
+            not (subst (λ (h : ℕ). MayGo leg m h) same goes)
+      ]
   chosen_still (Some hart) so_far not =
       record {
         below = let lt = so_far.below in omega (arith, lt);

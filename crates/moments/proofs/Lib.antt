@@ -4,6 +4,8 @@ pub mod Standings
 pub mod Parts
 pub mod Choosing
 pub mod Stepping
-pub mod Turning
+pub mod Turns
 pub mod Passing
 pub mod Keeping
+pub mod Cutting
+pub mod Histories

@@ -27,7 +27,7 @@ leg_of_all many (x ∷ legs) zero leg all is = let same : x ≡ leg = cc in subs
 leg_of_all many (x ∷ legs) (suc place) leg all is = leg_of_all many legs place leg (All-tail (IsLeg many) x legs all) is
 
 -- the next leg begins where one ends
-next_base : (now : ℕ → ℕ) (legs : List PlannedLeg) (place next : ℕ) (leg other : PlannedLeg) → GoOn now legs → next ≡ place + 1 →
+pub next_base : (now : ℕ → ℕ) (legs : List PlannedLeg) (place next : ℕ) (leg other : PlannedLeg) → GoOn now legs → next ≡ place + 1 →
     slice_get legs place ≡ Some leg → slice_get legs next ≡ Some other → (hart : ℕ) → count_at other.base hart ≡ count_at leg.ends hart
 next_base now [] place next leg other on is at there hart = cc
 next_base now (x ∷ legs) place zero leg other on is at there hart = absurd (omega (arith, is))
@@ -41,7 +41,7 @@ next_base now (x ∷ y ∷ legs) zero (suc next) leg other on is at there hart =
 next_base now (x ∷ legs) (suc place) (suc next) leg other on is at there hart =
     next_base (count_at x.ends) legs place next leg other on.1 (omega (arith, is)) at there hart
 
-first_base : (now : ℕ → ℕ) (legs : List PlannedLeg) (leg : PlannedLeg) → GoOn now legs → slice_get legs 0 ≡ Some leg → (hart : ℕ) → count_at leg.base hart ≡ now hart
+pub first_base : (now : ℕ → ℕ) (legs : List PlannedLeg) (leg : PlannedLeg) → GoOn now legs → slice_get legs 0 ≡ Some leg → (hart : ℕ) → count_at leg.base hart ≡ now hart
 first_base now [] leg on is hart = cc
 first_base now (x ∷ legs) leg on is hart = let same : x ≡ leg = cc in ap (λ (l : PlannedLeg). count_at l.base hart) (sym same) ∙ on.0 hart
 

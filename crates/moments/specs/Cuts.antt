@@ -10,9 +10,9 @@ use Rattle.hart_replay.specs.Plans.{log_of}
 use Rattle.hart_replay.specs.Replays.{IsOutcome}
 
 -- the closed cuts of the leg at which the hart has exactly so many steps
-pub record IsCutAt (leg : PlannedLeg) (hart count : ℕ) (cut : ℕ → ℕ) : Type 0 where
-  pub cut : IsCut (log_of leg) cut
-  pub count : cut hart ≡ count
+pub record IsCutAt (leg : PlannedLeg) (hart steps : ℕ) (at : ℕ → ℕ) : Type 0 where
+  pub cut : IsCut (log_of leg) at
+  pub count : at hart ≡ steps
 
 -- the least of them
 pub record IsLeastCut (leg : PlannedLeg) (hart count : ℕ) (counts : List ℕ) : Type 0 where

@@ -15,6 +15,7 @@ use crate::closure::least_cut;
 use ft_types::{Count, Counts, Hart, Memory, is_same_guest};
 use guest_image::{Image, Machine};
 use hart_replay::{Plan, PlannedLeg, ReplayFault, has_come_to, lead, lead_through};
+use page_book::{Book, Replaying};
 use std::alloc::Global;
 use std::option::Option;
 use std::result::Result;
@@ -55,7 +56,7 @@ fn lead_to(alloc: Global, start: Machine, leg: &PlannedLeg) -> Result<Machine, R
     ensures ok { IfOk result (λ m. LegLeads leg.now start m) }
     ensures fault { IfErr result (λ fault. IsLegFault leg.now start fault) }
 {
-    let book = lead(alloc, start, leg)?;
+    let book: Book<Replaying> = lead(alloc, start, leg)?;
     has_come_to(book.machine(), &book.counts(), &leg.ends)?;
     Ok(book.into_machine())
 }

@@ -11,6 +11,7 @@ ghost use Rattle.log_audit.specs.machinery.Covered.{IsQuietTo};
 ghost use Rattle.moments.specs.Line.{MayGo, IsNext, NoneMayGo};
 ghost use Rattle.moments.specs.machinery.Machines.{machine_of};
 ghost use Rattle.moments.specs.machinery.Kept.{AreQuiet};
+ghost use Rattle.moments.specs.machinery.Choices.{Chosen};
 
 use crate::machines::SteppedMachine;
 use edge_log::Edge;
@@ -64,17 +65,37 @@ fn may_go(leg: &PlannedLeg, machine: &SteppedMachine, stops: &Stops, hart: Hart)
     count < stops[hart.index()] || may_pass(leg, machine, hart, count)
 }
 
-/// Whether the hart has fewer steps than the other, if there is one.
+/// Of the first harts the one that comes next, once this hart is the next of them.
 #[inline(always)]
-fn is_fewer(machine: &SteppedMachine, hart: Hart, other: Option<Hart>) -> bool
+fn sooner(
+    leg: &PlannedLeg,
+    machine: &SteppedMachine,
+    stops: &Stops,
+    next: Option<Hart>,
+    hart: Hart,
+) -> Option<Hart>
     requires hart { hart < length (machine_of machine.now).harts }
-    requires other { IfSome other (λ o. o < length (machine_of machine.now).harts) }
-    ensures some { IfSome other (λ o. IsTrue result ↔ (counts_of (machine_of machine.now) hart < counts_of (machine_of machine.now) o)) }
-    ensures none { IfNone other (IsTrue result) }
+    requires quiet { AreQuiet leg.now (machine_of machine.now) stops.now }
+    requires next { Chosen leg.now (machine_of machine.now) hart next }
+    ensures { Chosen leg.now (machine_of machine.now) (hart + 1) result }
 {
-    match other {
-        Some(other) => machine.hart(hart).count() < machine.hart(other).count(),
-        None => true,
+    match next {
+        Some(other) => {
+            if machine.hart(hart).count() < machine.hart(other).count()
+                && may_go(leg, machine, stops, hart)
+            {
+                Some(hart)
+            } else {
+                Some(other)
+            }
+        }
+        None => {
+            if may_go(leg, machine, stops, hart) {
+                Some(hart)
+            } else {
+                None
+            }
+        }
     }
 }
 
@@ -87,10 +108,7 @@ pub(crate) fn next_hart(leg: &PlannedLeg, machine: &SteppedMachine, stops: &Stop
 {
     let mut next = None;
     for number in 0..machine.harts() {
-        let hart = Hart::new(number);
-        if is_fewer(machine, hart, next) && may_go(leg, machine, stops, hart) {
-            next = Some(hart);
-        }
+        next = sooner(leg, machine, stops, next, Hart::new(number));
     }
     next
 }

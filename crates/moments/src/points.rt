@@ -2,7 +2,8 @@
 
 ghost use Rattle.std.specs.Prelude.{◌≡◌, ◌↔◌, All, Some, IsTrue, IfSome, IfNone, slice_get};
 ghost use Rattle.moments.specs.declared.points.Point.{Point as point_of_specs};
-ghost use Rattle.moments.specs.Points.{Breaks, Watches};
+ghost use Rattle.moments.specs.declared.points.Point.TheVariants.{Watch};
+ghost use Rattle.moments.specs.Points.{Breaks, IsRead, IsWrite, Watches};
 
 use crate::access::{Access, Bytes, overlap};
 
@@ -47,19 +48,43 @@ pub(crate) fn breaks(point: Point, pc: u32) -> bool
     }
 }
 
+fn watches_reads(watched: Watched) -> bool
+    ensures { IsTrue result ↔ IsRead watched }
+{
+    match watched {
+        Watched::Read | Watched::Access => true,
+        Watched::Write => false,
+    }
+}
+
+fn watches_writes(watched: Watched) -> bool
+    ensures { IsTrue result ↔ IsWrite watched }
+{
+    match watched {
+        Watched::Write | Watched::Access => true,
+        Watched::Read => false,
+    }
+}
+
+/// Whether a step that uses bytes so is watched.
+fn is_watched(watched: Watched, bytes: Bytes, access: Access) -> bool
+    ensures { IsTrue result ↔ Watches (Watch watched bytes) access }
+{
+    match access {
+        Access::Nothing => false,
+        Access::Reads(those) => watches_reads(watched) && overlap(bytes, those),
+        Access::Writes(those) => watches_writes(watched) && overlap(bytes, those),
+        Access::Changes(those) => overlap(bytes, those),
+    }
+}
+
 /// Whether a step that uses bytes so is watched by the point.
 pub(crate) fn watches(point: Point, access: Access) -> bool
     ensures { IsTrue result ↔ Watches point access }
 {
-    match (point, access) {
-        (Point::Watch(Watched::Read | Watched::Access, watched), Access::Reads(bytes)) => {
-            overlap(watched, bytes)
-        }
-        (Point::Watch(Watched::Write | Watched::Access, watched), Access::Writes(bytes)) => {
-            overlap(watched, bytes)
-        }
-        (Point::Watch(_, watched), Access::Changes(bytes)) => overlap(watched, bytes),
-        _ => false,
+    match point {
+        Point::Break(_) => false,
+        Point::Watch(watched, bytes) => is_watched(watched, bytes, access),
     }
 }
 

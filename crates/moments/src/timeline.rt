@@ -182,6 +182,13 @@ impl Timeline {
         self.last
     }
 
+    /// The plan.
+    pub fn plan(&self) -> &Plan
+        ensures { result.now.legs ≡ self.now.legs }
+    {
+        &self.plan
+    }
+
     /// The number of harts.
     pub fn harts(&self) -> u8
         ensures { result ≡ length self.now.now.machine.harts }
@@ -198,7 +205,7 @@ impl Timeline {
 
     /// The leg of the present moment, where the plan has one.
     #[inline(always)]
-    fn leg(&self) -> Option<&PlannedLeg>
+    pub fn leg(&self) -> Option<&PlannedLeg>
         ensures some { IfSome result (λ leg. slice_get self.now.legs self.now.now.place ≡ Some leg.now) }
         ensures none { IfNone result (length self.now.legs ≤ self.now.now.place) }
     {
@@ -342,7 +349,7 @@ impl Timeline {
     }
 
     /// How many steps the hart has at the end of the line.
-    pub(crate) fn end_of(&self, hart: Hart) -> u64 {
+    pub fn end_of(&self, hart: Hart) -> u64 {
         match self.plan.legs().last() {
             Some(leg) => leg.ends.count_of(hart),
             None => 0,

@@ -63,7 +63,7 @@ fn streams(rt: HostRuntime) -> Result<(), Fail> {
     for (stream, wanted) in &STREAMS {
         for end in 0..stream.len() + 1 {
             let (first, second) = stream.split_at(end);
-            right = right && told(rt.alloc(), first, second)? == *wanted;
+            right = right && told(rt.alloc(), first, second)?.as_slice() == *wanted;
         }
     }
     assert!(rt; right);
@@ -82,7 +82,7 @@ static TEXTS: [(&[u8], &[u8]); 4] = [
 fn spellings(rt: HostRuntime) -> Result<(), Fail> {
     let mut right = true;
     for (bytes, text) in &TEXTS {
-        right = right && write_packet(rt.alloc(), bytes)? == *text;
+        right = right && write_packet(rt.alloc(), bytes)?.as_slice() == *text;
     }
     assert!(rt; right);
     Ok(())
@@ -102,6 +102,6 @@ fn lengths(rt: HostRuntime) -> Result<(), Fail> {
     let most = long(rt.alloc(), 4096)?;
     let more = long(rt.alloc(), 4097)?;
     assert!(rt; most.len() == 4101 && most.ends_with(b"a][g]"));
-    assert!(rt; more == b"![g]");
+    assert!(rt; matches!(more.as_slice(), b"![g]"));
     Ok(())
 }

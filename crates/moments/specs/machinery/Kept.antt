@@ -2,7 +2,7 @@
 use Rattle.std.specs.Prelude.{ℕ, ◌≡◌, ◌+◌, ◌-◌, ◌<◌, ◌≤◌, List, All, length, slice_get, slice_index, Some, None, Option}
 use Rattle.std.specs.List.{AllByRecursion}
 use Rattle.ft_types.specs.Guests.{GuestParts}
-use Rattle.ft_types.specs.declared.names.TheConstants.{HART_LIMIT, HART_ROW}
+use Rattle.ft_types.specs.declared.names.TheConstants.{HART_ROW}
 use Rattle.guest_image.specs.Machine.{MachineState}
 use Rattle.hart_lease.specs.Runs.{counts_of}
 use Rattle.hart_replay.specs.declared.plans.PlannedLeg.{PlannedLeg}
@@ -27,7 +27,6 @@ IsTurned legs t = (leg : PlannedLeg) → slice_get legs t.place ≡ Some leg →
 pub record IsBegun (guest : GuestParts) (legs : List PlannedLeg) (first : Standing) : Type 0 where
   pub plan : IsPlan guest legs
   pub harts : length first.machine.harts ≡ guest.harts
-  pub few : length first.machine.harts ≤ HART_LIMIT
   pub boot : (hart : ℕ) → counts_of first.machine hart ≡ 0
   pub is : first ≡ standing_at first.machine
 
@@ -37,10 +36,10 @@ pub record Stands (legs : List PlannedLeg) (first t : Standing) : Type 0 where
   pub place : t.place ≤ length legs - 1
 
 -- what every timeline keeps
-pub record IsTimeline (guest : GuestParts) (legs : List PlannedLeg) (first now : Standing) (kept : List Standing) (stops : List ℕ) : Type 0 where
+pub record IsTimeline (guest : GuestParts) (legs : List PlannedLeg) (first now : Standing) (snapshots : List Standing) (stops : List ℕ) : Type 0 where
   pub begun : IsBegun guest legs first
   pub stands : Stands legs first now
-  pub kept : AllByRecursion (Stands legs first) kept
+  pub kept : AllByRecursion (Stands legs first) snapshots
   pub turned : IsTurned legs now
   pub quiet : QuietAt legs now stops
 

@@ -27,8 +27,8 @@ Raises leg many old true new = IsRaised leg old new × (sum old < sum new)
 Raises leg many old false new = (new ≡ old) × ((hart : ℕ) → hart < many → AreMetOf leg hart old)
 
 -- a closed cut of the leg at which the hart has so many steps or more, and no closed cut with so many has fewer of any hart
-pub record IsLeastAbove (leg : PlannedLeg) (hart count : ℕ) (counts : List ℕ) : Type 0 where
+pub record IsLeastAbove (leg : PlannedLeg) (hart steps : ℕ) (counts : List ℕ) : Type 0 where
   pub harts : length counts ≡ length leg.base
   pub cut : IsCut (log_of leg) (count_at counts)
-  pub count : count ≤ count_at counts hart
-  pub least : (other : ℕ → ℕ) → IsCut (log_of leg) other → count ≤ other hart → IsWithin (count_at counts) other
+  pub count : steps ≤ count_at counts hart
+  pub least : (other : ℕ → ℕ) → IsCut (log_of leg) other → steps ≤ other hart → IsWithin (count_at counts) other

@@ -1,6 +1,5 @@
-use Rattle.std.proofs.Common.{◌≤◌}
 use Rattle.moments.specs.machinery.Machines.{machine_of}
-use Rattle.moments.proofs.Choosing.{Chosen}
+use Rattle.moments.specs.machinery.Choices.{Chosen}
 use Rattle.moments.proofs.next.next_hart.Given as goal
 
 abbrev pub invariant-loop-number : goal.invariant-loop-number
