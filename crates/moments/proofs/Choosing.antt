@@ -50,12 +50,12 @@ module _ (leg : PlannedLeg) (m : MachineState) (many : ℕ) where
   pub chosen_still : (next : Option ℕ) → Chosen leg m many next → (MayGo leg m many → NotLess m many next) → Chosen leg m (many + 1) next
   chosen_still None none not =
       λ other lt goes.
-          elim (cases_lt other many) [
-            | inl before ↦ none other before goes
-            | inr le ↦
-                let same : other ≡ many = omega (arith, lt, le) in
-                not (subst (λ (h : ℕ). MayGo leg m h) same goes)
-          ]
+      elim (cases_lt other many) [
+        | inl before ↦ none other before goes
+        | inr le ↦
+            let same : other ≡ many = omega (arith, lt, le) in
+            not (subst (λ (h : ℕ). MayGo leg m h) same goes)
+      ]
   chosen_still (Some hart) so_far not =
       record {
         below = let lt = so_far.below in omega (arith, lt);

@@ -94,11 +94,7 @@ impl Timeline {
     }
 
     /// Goes on to a moment. Of the moments on the way the last one whose step hits a point, and which point.
-    fn last_hit(
-        &mut self,
-        points: &[Point],
-        end: u64,
-    ) -> Result<Option<(u64, usize)>, ReplayFault>
+    fn last_hit(&mut self, points: &[Point], end: u64) -> Result<Option<(u64, usize)>, ReplayFault>
         requires { end ≤ steps_of self.old.legs }
         ensures line { self.new ≡ record self.old { now = self.new.now } }
         ensures last { IfOk result (LastHit points.now self.old end) }
