@@ -1,7 +1,6 @@
 //! Going live from what was handed over.
 
 ghost use Rattle.std.specs.Prelude.{◌≡◌, ◌++◌, ℕ, List, [], length, map, IfOk};
-ghost use Rattle.std.specs.List.{flat_map};
 ghost use Rattle.fragment_codec.specs.Streams.{spelling};
 ghost use Rattle.log_join.specs.Stores.{clashes_of};
 ghost use Rattle.log_streams.specs.Stores.{IsStoreText};
@@ -124,17 +123,6 @@ fn joined(alloc: Global, guest: Guest, logs: &[HandedLog]) -> Result<Store, Faul
         return Err(clash());
     }
     Ok(store)
-}
-
-/// The bytes of frames.
-pub(crate) fn frame_bytes(alloc: Global, frames: &[Frame]) -> Result<Vec<u8>, Memory>
-    ensures { IfOk result (λ bytes. bytes.items ≡ flat_map spelling frames.now) }
-{
-    let mut sink = MemorySink::new(alloc, usize::MAX);
-    match write_frames(frames, &mut sink) {
-        Ok(()) => Ok(sink.into_bytes()),
-        Err(_) => Err(Memory),
-    }
 }
 
 /// The bytes of all frames of a store, and then of this one.

@@ -1,24 +1,14 @@
 //! What lines say to a primary.
 
 ghost use Rattle.std.specs.Prelude.{◌≡◌, ◌≢◌, ◌<◌, ◌≤◌, IfSome};
-ghost use Rattle.live_primary.specs.declared.reading.Said.TheVariants.{Request as SaidRequest};
+ghost use Rattle.primary_turns.specs.declared.said.Said.TheVariants.{Request as SaidRequest};
 ghost use Rattle.wire.specs.declared.requests.Request.{Request as asked_for};
 
 use ends::Reads;
-use ft_types::{Guest, Keeper};
+use ft_types::Guest;
+use primary_turns::Said;
 use std::option::Option;
-use wire::{Acknowledgement, LineText, Request, read_acknowledgement, read_again, read_request};
-
-/// What a line says.
-#[derive(Clone, Copy)]
-pub(crate) enum Said {
-    /// A client wants this.
-    Request(Request),
-    /// A keeper has this.
-    Acknowledgement(Acknowledgement),
-    /// This keeper is to be sent all frames once more.
-    Again(Keeper),
-}
+use wire::{LineText, read_acknowledgement, read_again, read_request};
 
 /// What a line of the input with this number says, if anything: clients speak by the first so many, keepers by the others.
 fn read_said(guest: &Guest, requests: usize, input: usize, line: &LineText) -> Option<Said>

@@ -1,0 +1,3 @@
+pub mod Taken
+mod Adding
+mod Turning

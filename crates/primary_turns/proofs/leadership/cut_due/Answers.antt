@@ -1,0 +1,10 @@
+use Rattle.std.proofs.Common.{◌∙◌, [], inr, refl, sym, append-nil}
+use Rattle.primary_turns.proofs.Turning.{none_kept}
+use Rattle.primary_turns.proofs.leadership.cut_due.Goals as goal
+
+pub returns-else-sends-clause-cuts : goal.returns-else-sends-clause-cuts
+returns-else-sends-clause-cuts c = (
+  [],
+  sym (append-nil c.args.deeds.now.items),
+  inr (record { kept = sym c.kept.ensures ∙ none_kept c.kept.result c.sends.result c.sends.ensures c.if-sends.false; same = refl; added = refl }),
+)

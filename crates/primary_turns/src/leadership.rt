@@ -1,0 +1,153 @@
+//! A primary that leads a term.
+
+ghost use Rattle.std.specs.Prelude.{◌≡◌, ◌<◌, ◌≤◌, ◌⊎◌, length, replicate, slice_get, take, None, Some, IfOk, OnOk};
+ghost use Rattle.ft_types.specs.declared.names.TheConstants.{HART_ROW};
+ghost use Rattle.output_gate.specs.Gates.{kept_count};
+ghost use Rattle.primary_turns.specs.Deeds.{Adds};
+ghost use Rattle.primary_turns.specs.Turns.{ComesAgain, Cuts, CutsNone, Leads, Rounds, TakesAll, seen};
+
+use crate::deeds::{Deed, FrameBytes};
+use crate::pace::{FIRST_ROUND, Next, Pace, SHORT_ROUNDS};
+use crate::read::Sent;
+use crate::said::Said;
+use crate::taking::{Notes, take_one};
+use crate::told::Told;
+use ft_types::{Count, Memory};
+use leading::{Leader, Spacing};
+use std::alloc::Global;
+use std::marker::Model;
+use std::result::Result;
+
+/// A primary that leads a term. Contracts see its leader, and for each hart the number of its answer that was told last. Whoever has it does the
+/// deeds that each call adds, in their order. Want of memory ends it: what was to be done then is not done, and nothing is known of it.
+#[derive(Drop)]
+pub struct Leadership {
+    leader: Leader,
+    notes: Notes,
+}
+
+impl Model for Leadership {
+    ghost use Rattle.primary_turns.specs.Turns.{LeadershipView, seen};
+
+    ghost Value = { LeadershipView };
+
+    ghost view = { λ l. seen l.leader l.notes.told };
+}
+
+/// Leads a round of so many steps, and where it is a short one some more, until something comes to the gate: harts that ring each other for an answer
+/// hear it in the next round, before keepers are sent anything, and before it is looked whether they wait.
+fn rounds(alloc: Global, leader: Leader, steps: Count, spacing: Spacing) -> Result<Leader, Memory>
+    ensures { IfOk result (λ l. Rounds leader l) }
+{
+    let mut leader = leader.round(alloc, steps, spacing)?;
+    for _more in 1..SHORT_ROUNDS {
+        if steps > FIRST_ROUND || leader.kept() > 0 {
+            break;
+        }
+        leader = leader.round(alloc, steps, Spacing::Usual)?;
+    }
+    Ok(leader)
+}
+
+/// Cuts what is new of the log, and sends it.
+fn cut(
+    alloc: Global,
+    leader: &mut Leader,
+    sent: &mut Sent,
+    deeds: &mut Vec<Deed>,
+) -> Result<(), Memory>
+    ensures { OnOk result (Adds deeds.old.items deeds.new.items (Cuts leader.old leader.new)) }
+{
+    let frames = leader.seal(alloc)?;
+    let bytes = FrameBytes::of(alloc, &frames)?;
+    if bytes.is_empty() {
+        return Ok(());
+    }
+    sent.note(leader.counts());
+    Ok(deeds.push(Deed::Send(bytes))?)
+}
+
+/// Cuts what is new of the log, and sends it, unless more of the longest rounds are to come before.
+fn cut_due(
+    alloc: Global,
+    leader: &mut Leader,
+    notes: &mut Notes,
+    deeds: &mut Vec<Deed>,
+) -> Result<(), Memory>
+    ensures cuts { OnOk result (Adds deeds.old.items deeds.new.items (λ added. Cuts leader.old leader.new added ⊎ CutsNone leader.old leader.new added)) }
+    ensures told { notes.new.told ≡ notes.old.told }
+{
+    if notes.pace.sends(leader.kept()) {
+        cut(alloc, leader, &mut notes.sent, deeds)
+    } else {
+        Ok(())
+    }
+}
+
+impl Leadership {
+    /// It begins with this leader.
+    pub fn new(alloc: Global, leader: Leader) -> Result<Leadership, Memory>
+        ensures { IfOk result (λ l. l ≡ seen leader (replicate HART_ROW None)) }
+    {
+        let notes = Notes {
+            told: Told::new(alloc)?,
+            sent: Sent::new(),
+            pace: Pace::new(),
+        };
+        Ok(Leadership { leader, notes })
+    }
+
+    /// What comes next.
+    pub fn next(&self) -> Next {
+        self.notes.pace.next
+    }
+
+    /// Takes what is said, up to the first request that is to come again: its hart has no room for it. How much was taken.
+    pub fn take(
+        &mut self,
+        alloc: Global,
+        all: &[Said],
+        deeds: &mut Vec<Deed>,
+    ) -> Result<usize, Memory>
+        ensures takes { IfOk result (λ many. Adds deeds.old.items deeds.new.items (TakesAll self.old (take many all.now) self.new)) }
+        ensures many { IfOk result (λ many. many ≤ length all.now) }
+        ensures again { IfOk result (λ many. many < length all.now → ComesAgain self.new.leader (slice_get all.now many)) }
+    {
+        for number in 0..all.len() {
+            if !take_one(
+                alloc,
+                &mut self.leader,
+                &mut self.notes,
+                deeds,
+                &all[number],
+            )? {
+                return Ok(number);
+            }
+        }
+        Ok(all.len())
+    }
+
+    /// Leads rounds, and sends what is new, unless more of the longest are to come before.
+    pub fn lead(self, alloc: Global, deeds: &mut Vec<Deed>) -> Result<Leadership, Memory>
+        ensures leads { IfOk result (λ l. Adds deeds.old.items deeds.new.items (Leads self.leader l.leader)) }
+        ensures told { IfOk result (λ l. l.told ≡ self.told) }
+    {
+        let Leadership { leader, mut notes } = self;
+        let Pace { steps, spacing, .. } = notes.pace;
+        let mut leader = rounds(alloc, leader, steps, spacing)?;
+        cut_due(alloc, &mut leader, &mut notes, deeds)?;
+        notes.pace.note_led();
+        Ok(Leadership { leader, notes })
+    }
+
+    /// Looks, unless that is put off, whether more rounds would change anything.
+    pub fn look(&mut self, alloc: Global) -> Result<(), Memory>
+        ensures { self.new ≡ self.old }
+    {
+        let only_waits = self.notes.pace.looks() && self.leader.only_waits(alloc)?;
+        self.notes
+            .pace
+            .note_looked(only_waits, self.leader.may_hand());
+        Ok(())
+    }
+}

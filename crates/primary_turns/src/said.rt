@@ -1,0 +1,15 @@
+//! What is said to a primary.
+
+use ft_types::Keeper;
+use wire::{Acknowledgement, Request};
+
+/// What a line says to a primary.
+#[derive(Clone, Copy)]
+pub enum Said {
+    /// A client wants this.
+    Request(Request),
+    /// A keeper has this.
+    Acknowledgement(Acknowledgement),
+    /// This keeper is to be sent all frames once more.
+    Again(Keeper),
+}

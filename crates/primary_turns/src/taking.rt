@@ -1,0 +1,166 @@
+//! What is said is taken.
+
+ghost use Rattle.std.specs.Prelude.{◌≡◌, ◌↔◌, Some, false, IfOk, IsTrue, OnOk};
+ghost use Rattle.requests.specs.declared.queue.Came.TheVariants.{Busy};
+ghost use Rattle.leading.specs.declared.heard.Heard.TheVariants.{Came as CameOf};
+ghost use Rattle.primary_turns.specs.Deeds.{Adds, AreAnswersRead, AreRead, noted};
+ghost use Rattle.primary_turns.specs.Turns.{ComesAgain, HearsRequest, IsBusy, IsKnown, Takes, seen};
+ghost use Rattle.primary_turns.specs.declared.said.Said.TheVariants as said;
+
+use crate::deeds::Deed;
+use crate::pace::Pace;
+use crate::read::Sent;
+use crate::said::Said;
+use crate::telling::{tell_heard, tell_released};
+use crate::told::Told;
+use ft_types::{Hart, Memory};
+use leading::{Came, Heard, Leader};
+use std::alloc::Global;
+use std::result::Result;
+use wire::{Acknowledgement, Request};
+
+/// What a primary that leads knows beside its term.
+#[derive(Drop)]
+pub(crate) struct Notes {
+    pub(crate) told: Told,
+    /// This steers, and so do those below.
+    pub(crate) sent: Sent,
+    pub(crate) pace: Pace,
+}
+
+/// Notes that a client has read all answers that were told, where the last of all was this hart's.
+fn note_answers_read(told: &Told, deeds: &mut Vec<Deed>, hart: Hart) -> Result<(), Memory>
+    ensures { OnOk result (Adds deeds.old.items deeds.new.items AreAnswersRead) }
+{
+    if told.is_last(hart) {
+        Ok(deeds.push(Deed::AnswersRead)?)
+    } else {
+        Ok(())
+    }
+}
+
+/// Passes over a request for answers whose client has all that were told of the hart. Whether it is one.
+fn pass_over(told: &Told, deeds: &mut Vec<Deed>, request: &Request) -> Result<bool, Memory>
+    ensures known { IfOk result (λ known. IsTrue known → Adds deeds.old.items deeds.new.items (IsKnown told.now request.now)) }
+    ensures other { IfOk result (λ known. known ≡ false → deeds.new.items ≡ deeds.old.items) }
+{
+    let Request::From { hart, number } = *request else {
+        return Ok(false);
+    };
+    if !told.is_behind(hart, number) {
+        return Ok(false);
+    }
+    note_answers_read(told, deeds, hart)?;
+    Ok(true)
+}
+
+/// Whether a hart had no room for a request.
+fn is_busy(heard: &Heard) -> bool
+    ensures { IsTrue result ↔ (heard.now ≡ CameOf Busy) }
+{
+    matches!(heard, Heard::Came(Came::Busy))
+}
+
+/// Hears a request. Whether it need not come again: its hart had room for it.
+fn hear(
+    alloc: Global,
+    leader: &mut Leader,
+    notes: &mut Notes,
+    deeds: &mut Vec<Deed>,
+    request: &Request,
+) -> Result<bool, Memory>
+    ensures hears { IfOk result (λ taken. IsTrue taken → Adds deeds.old.items deeds.new.items (λ added.
+        HearsRequest leader.old request.now leader.new added × (notes.new.told ≡ noted notes.old.told added))) }
+    ensures busy { IfOk result (λ taken. taken ≡ false → IsBusy leader.old request.now) }
+    ensures left { IfOk result (λ taken. taken ≡ false → (leader.new ≡ leader.old) × (notes.new.told ≡ notes.old.told) × (deeds.new.items ≡ deeds.old.items)) }
+{
+    let heard = leader.hear(alloc, request)?;
+    tell_heard(&mut notes.told, deeds, request, &heard)?;
+    notes.pace.note_heard(&heard, leader.kept() > 0);
+    Ok(!is_busy(&heard))
+}
+
+/// Takes what a client wants. Whether it need not come again.
+fn take_request(
+    alloc: Global,
+    leader: &mut Leader,
+    notes: &mut Notes,
+    deeds: &mut Vec<Deed>,
+    request: &Request,
+) -> Result<bool, Memory>
+    ensures takes { IfOk result (λ taken. IsTrue taken → Adds deeds.old.items deeds.new.items
+        (Takes (seen leader.old notes.old.told) (said.Request request.now) (seen leader.new notes.new.told))) }
+    ensures busy { IfOk result (λ taken. taken ≡ false → IsBusy leader.old request.now) }
+    ensures left { IfOk result (λ taken. taken ≡ false → (leader.new ≡ leader.old) × (notes.new.told ≡ notes.old.told) × (deeds.new.items ≡ deeds.old.items)) }
+{
+    if pass_over(&notes.told, deeds, request)? {
+        return Ok(true);
+    }
+    hear(alloc, leader, notes, deeds, request)
+}
+
+/// Notes what a keeper has read, as far as its acknowledgement tells.
+fn note_read(
+    leader: &Leader,
+    sent: &Sent,
+    deeds: &mut Vec<Deed>,
+    acknowledgement: &Acknowledgement,
+) -> Result<(), Memory>
+    ensures { OnOk result (Adds deeds.old.items deeds.new.items (AreRead acknowledgement.now.keeper)) }
+{
+    if acknowledgement.term != leader.term() {
+        return Ok(());
+    }
+    match sent.read_by(acknowledgement) {
+        Some(extent) => Ok(deeds.push(Deed::HasRead(acknowledgement.keeper, extent))?),
+        None => Ok(()),
+    }
+}
+
+/// Takes what a keeper has.
+fn take_acknowledgement(
+    alloc: Global,
+    leader: &mut Leader,
+    notes: &mut Notes,
+    deeds: &mut Vec<Deed>,
+    acknowledgement: &Acknowledgement,
+) -> Result<(), Memory>
+    ensures { OnOk result (Adds deeds.old.items deeds.new.items
+        (Takes (seen leader.old notes.old.told) (said.Acknowledgement acknowledgement.now) (seen leader.new notes.new.told))) }
+{
+    let before = leader.released().len();
+    leader.acknowledge(alloc, acknowledgement)?;
+    note_read(leader, &notes.sent, deeds, acknowledgement)?;
+    tell_released(
+        &mut notes.told,
+        deeds,
+        leader.term(),
+        &leader.released()[before..],
+    )
+}
+
+/// Takes what is said. Whether it need not come again.
+pub(crate) fn take_one(
+    alloc: Global,
+    leader: &mut Leader,
+    notes: &mut Notes,
+    deeds: &mut Vec<Deed>,
+    what: &Said,
+) -> Result<bool, Memory>
+    ensures takes { IfOk result (λ taken. IsTrue taken → Adds deeds.old.items deeds.new.items
+        (Takes (seen leader.old notes.old.told) what.now (seen leader.new notes.new.told))) }
+    ensures busy { IfOk result (λ taken. taken ≡ false → ComesAgain leader.old (Some what.now)) }
+    ensures left { IfOk result (λ taken. taken ≡ false → (leader.new ≡ leader.old) × (notes.new.told ≡ notes.old.told) × (deeds.new.items ≡ deeds.old.items)) }
+{
+    match what {
+        Said::Request(request) => take_request(alloc, leader, notes, deeds, request),
+        Said::Acknowledgement(acknowledgement) => {
+            take_acknowledgement(alloc, leader, notes, deeds, acknowledgement)?;
+            Ok(true)
+        }
+        Said::Again(keeper) => {
+            deeds.push(Deed::Anew(*keeper))?;
+            Ok(true)
+        }
+    }
+}
