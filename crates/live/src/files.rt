@@ -12,7 +12,7 @@ use std::os::unix::fs::MetadataExt;
 use std::time::UNIX_EPOCH;
 
 /// The name of a file beside a log.
-fn beside(alloc: Global, log: &str, ending: &str) -> Result<String, AllocError> {
+pub(crate) fn beside(alloc: Global, log: &str, ending: &str) -> Result<String, AllocError> {
     let mut name = String::from_str(alloc, log)?;
     name.push_str(ending)?;
     Ok(name)
@@ -27,7 +27,7 @@ fn new_name<R: Paths + AllocGlobal>(rt: &R, log: &str) -> Result<String, Fault> 
 }
 
 /// The name of a log without links, by which its fences lie beside the file itself.
-fn real_name<R: Paths + AllocGlobal>(rt: &R, log: &str) -> Result<String, Fault> {
+pub(crate) fn real_name<R: Paths + AllocGlobal>(rt: &R, log: &str) -> Result<String, Fault> {
     match rt.real_name(log) {
         Ok(name) => Ok(name),
         Err(error) if error.kind() == io::ErrorKind::NotFound => new_name(rt, log),
@@ -46,7 +46,7 @@ fn born_of(file: &Metadata) -> u64 {
     }
 }
 
-fn identity_of(file: &Metadata) -> Identity {
+pub(crate) fn identity_of(file: &Metadata) -> Identity {
     Identity {
         device: file.dev(),
         inode: file.ino(),
@@ -86,7 +86,7 @@ fn stamp_of(file: &Metadata) -> Option<Stamp> {
 }
 
 /// Whether there is anything of a name, a link also.
-fn is_there<R: Paths + AllocGlobal>(rt: &R, name: &str) -> io::Result<bool> {
+pub(crate) fn is_there<R: Paths + AllocGlobal>(rt: &R, name: &str) -> io::Result<bool> {
     match rt.look_at(name) {
         Ok(_) => Ok(true),
         Err(error) if error.kind() == io::ErrorKind::NotFound => Ok(false),

@@ -2,6 +2,7 @@
 //! FIFOs or files.
 #![tactic(auto)]
 
+mod checking;
 mod desk;
 mod events;
 mod faults;
@@ -10,19 +11,24 @@ mod handing;
 mod keeping;
 mod listening;
 mod making;
+mod mending;
 mod names;
 mod posting;
 
 ghost use Rattle.std.specs.Prelude.{◌≤◌};
 
+use crate::checking::check_log;
 use crate::handing::hand;
 use crate::keeping::keep;
 use crate::making::make;
-use crate::names::{name_in_hand, name_in_keeper, name_in_make};
+use crate::mending::mend_log;
+use crate::names::{name_in_check, name_in_hand, name_in_keeper, name_in_make, name_in_mend};
 use ends::{Fault, Host, refuse, tell};
 use live_client::ask;
 use live_primary::lead;
-use live_words::{HandWords, KeeperWords, MakeWords, Task, WordsFault, read_task};
+use live_words::{
+    CheckWords, HandWords, KeeperWords, MakeWords, MendWords, Task, WordsFault, read_task,
+};
 use std::process::ExitCode;
 use std::{env, io};
 
@@ -73,6 +79,30 @@ fn hand_and_tell<H: Host>(rt: &H, words: &HandWords<'_>) -> u8
     }
 }
 
+fn check_and_tell<H: Host>(rt: &H, words: &CheckWords<'_>) -> u8
+    ensures { result ≤ 1 }
+{
+    match check_log(rt, words) {
+        Ok(status) => status,
+        Err(fault) => {
+            tell(rt, &fault, name_in_check(words, &fault));
+            1
+        }
+    }
+}
+
+fn mend_and_tell<H: Host>(rt: &H, words: &MendWords<'_>) -> u8
+    ensures { result ≤ 1 }
+{
+    match mend_log(rt, words) {
+        Ok(status) => status,
+        Err(fault) => {
+            tell(rt, &fault, name_in_mend(words, &fault));
+            1
+        }
+    }
+}
+
 /// Does what is asked for, tells a fault, and gives the status that the program ends with.
 fn run<H: Host>(rt: &H, task: &Task<'_>) -> u8
     ensures { result ≤ 2 }
@@ -83,6 +113,8 @@ fn run<H: Host>(rt: &H, task: &Task<'_>) -> u8
         Task::Hand(words) => hand_and_tell(rt, words),
         Task::Primary(words) => lead(rt, words),
         Task::Client(words) => ask(rt, words),
+        Task::Check(words) => check_and_tell(rt, words),
+        Task::Mend(words) => mend_and_tell(rt, words),
     }
 }
 

@@ -4,8 +4,8 @@ use word_forms::Form;
 
 /// `make IMAGE K KEEPERS NEED PAIR LOG`, `keeper IMAGE K LOG from FRAMES.. to ACKS..`, `hand IMAGE K LOG T`,
 /// `primary IMAGE T KEEPERS NEED in REQUESTS.. out ANSWERS.. to FRAMES.. from ACKS.. with HANDED..`,
-/// `client FILE WINDOW MILLIS to REQUESTS.. from ANSWERS..`
-pub(crate) static FORMS: [Form; 5] = [
+/// `client FILE WINDOW MILLIS to REQUESTS.. from ANSWERS..`, `check IMAGE LOG`, `mend IMAGE LOG FROM..`
+pub(crate) static FORMS: [Form; 7] = [
     Form {
         name: "make",
         words: &["image", "keeper", "keepers", "need", "pair", "log"],
@@ -35,5 +35,17 @@ pub(crate) static FORMS: [Form; 5] = [
         words: &["file", "window", "millis"],
         has_paths: false,
         behind: &["from", "to"],
+    },
+    Form {
+        name: "check",
+        words: &["image", "log"],
+        has_paths: false,
+        behind: &[],
+    },
+    Form {
+        name: "mend",
+        words: &["image", "log"],
+        has_paths: true,
+        behind: &[],
     },
 ];
