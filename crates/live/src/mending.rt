@@ -105,13 +105,7 @@ pub fn mend_log<H: Host>(rt: &H, words: &MendWords<'_>) -> Result<u8, Fault>
     let pair = files.known.pair;
     let mut others = Vec::new(rt.alloc());
     for number in 0..words.others.len() {
-        others.push(read_other(
-            rt,
-            &guest,
-            &pair,
-            number,
-            words.others[number],
-        )?)?;
+        others.push(read_other(rt, &guest, &pair, number, words.others[number])?)?;
     }
     match mend(rt.alloc(), guest, &mut files, &others) {
         Ok(()) => Ok(0),

@@ -40,11 +40,7 @@ pub(crate) struct Gathered {
 }
 
 /// Puts the frames into a store of the guest, up to the first that it does not take.
-pub(crate) fn gather(
-    alloc: Global,
-    guest: Guest,
-    frames: Vec<Frame>,
-) -> Result<Gathered, Memory>
+pub(crate) fn gather(alloc: Global, guest: Guest, frames: Vec<Frame>) -> Result<Gathered, Memory>
     ensures { IfOk result (λ g. IsGathered guest frames.items g.taken g.misfit g.store) }
 {
     let mut store = Store::new(alloc, guest);

@@ -119,12 +119,7 @@ struct Plan {
 }
 
 /// What mends a log of the guest, from other keepers' logs.
-fn plan_for(
-    alloc: Global,
-    guest: Guest,
-    log: &[u8],
-    others: &[Vec<u8>],
-) -> Result<Plan, MendFault>
+fn plan_for(alloc: Global, guest: Guest, log: &[u8], others: &[Vec<u8>]) -> Result<Plan, MendFault>
     ensures mended { IfOk result (λ plan. IsMended guest log.now (map (λ log. log.items) others.now) plan.size plan.fresh.items) }
     ensures fault { IfErr result (λ f. IsNotMended guest log.now (map (λ log. log.items) others.now) f) }
 {
