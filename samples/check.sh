@@ -310,6 +310,7 @@ elif [ -x "$live" ] && command -v bash > /dev/null; then
         echo "left out processes in two network namespaces, since there is no socat or no right to make them"
     fi
     drills 'what goes amiss between processes' amiss.sh
+    drills 'what is told of logs, and how they are mended' mend.sh
     if ! command -v cc > /dev/null; then
         echo "left out samples/live/power.sh, since no C compiler is installed"
     elif bash "$top/samples/live/power.sh" "$live" 2 > "$work/drills" 2>&1; then

@@ -2,13 +2,20 @@
 //! FIFOs or files.
 #![tactic(auto)]
 
+mod checking;
+mod mending;
+mod names;
+
 ghost use Rattle.std.specs.Prelude.{◌≤◌};
 
-use ends::{Fault, Host, refuse};
+use crate::checking::check_log;
+use crate::mending::mend_log;
+use crate::names::{name_in_check, name_in_mend};
+use ends::{Fault, Host, refuse, tell};
 use live_client::ask;
 use live_keeper::{hand, keep, make};
 use live_primary::lead;
-use live_words::{Task, WordsFault, asked_text, read_task};
+use live_words::{CheckWords, MendWords, Task, WordsFault, asked_text, read_task};
 use std::process::ExitCode;
 use std::{env, io};
 use version::VERSION;
@@ -24,6 +31,30 @@ fn arguments(rt: &HostRuntime) -> io::Result<Vec<String>> {
     Ok(words)
 }
 
+fn check_and_tell<H: Host>(rt: &H, words: &CheckWords<'_>) -> u8
+    ensures { result ≤ 1 }
+{
+    match check_log(rt, words) {
+        Ok(status) => status,
+        Err(fault) => {
+            tell(rt, &fault, name_in_check(words, &fault));
+            1
+        }
+    }
+}
+
+fn mend_and_tell<H: Host>(rt: &H, words: &MendWords<'_>) -> u8
+    ensures { result ≤ 1 }
+{
+    match mend_log(rt, words) {
+        Ok(status) => status,
+        Err(fault) => {
+            tell(rt, &fault, name_in_mend(words, &fault));
+            1
+        }
+    }
+}
+
 /// Does what is asked for, tells a fault, and gives the status that the program ends with.
 fn run<H: Host>(rt: &H, task: &Task<'_>) -> u8
     ensures { result ≤ 2 }
@@ -34,6 +65,8 @@ fn run<H: Host>(rt: &H, task: &Task<'_>) -> u8
         Task::Hand(words) => hand(rt, words),
         Task::Primary(words) => lead(rt, words),
         Task::Client(words) => ask(rt, words),
+        Task::Check(words) => check_and_tell(rt, words),
+        Task::Mend(words) => mend_and_tell(rt, words),
     }
 }
 

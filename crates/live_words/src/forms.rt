@@ -3,7 +3,7 @@
 use word_forms::Form;
 
 /// The forms of the words.
-pub(crate) static FORMS: [Form; 5] = [
+pub(crate) static FORMS: [Form; 7] = [
     Form {
         name: "make",
         usage: "live make IMAGE K KEEPERS NEED PAIR LOG",
@@ -43,5 +43,21 @@ pub(crate) static FORMS: [Form; 5] = [
         words: &["file", "window", "millis"],
         has_paths: false,
         behind: &["from", "to"],
+    },
+    Form {
+        name: "check",
+        usage: "live check IMAGE LOG",
+        about: "tells what a log has, and whether a keeper would begin with it",
+        words: &["image", "log"],
+        has_paths: false,
+        behind: &[],
+    },
+    Form {
+        name: "mend",
+        usage: "live mend IMAGE LOG FROM..",
+        about: "cuts a log behind its frames, and adds what it lacks from other logs",
+        words: &["image", "log"],
+        has_paths: true,
+        behind: &[],
     },
 ];

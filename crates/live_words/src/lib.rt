@@ -6,5 +6,7 @@ mod matching;
 mod tasks;
 
 pub use matching::{asked_text, read_task};
-pub use tasks::{ClientWords, HandWords, KeeperWords, MakeWords, PrimaryWords, Task};
+pub use tasks::{
+    CheckWords, ClientWords, HandWords, KeeperWords, MakeWords, MendWords, PrimaryWords, Task,
+};
 pub use word_forms::WordsFault;

@@ -3,11 +3,13 @@
 ghost use Rattle.std.specs.Prelude.{◌≡◌, ◌<◌, ◌++◌, ◌∷◌, [], IfOk};
 ghost use Rattle.ft_types.specs.Text.{IsNumber};
 ghost use Rattle.live_words.specs.Usable.{IsUsable};
-ghost use Rattle.live_words.specs.Words.{AsksFor, Asks, Hands, Keeps, Leads, Makes};
+ghost use Rattle.live_words.specs.Words.{AsksFor, Asks, Checks, Hands, Keeps, Leads, Makes, Mends};
 ghost use Rattle.wire.specs.Pairs.{IsLongWord};
 
 use crate::forms::FORMS;
-use crate::tasks::{ClientWords, HandWords, KeeperWords, MakeWords, PrimaryWords, Task};
+use crate::tasks::{
+    CheckWords, ClientWords, HandWords, KeeperWords, MakeWords, MendWords, PrimaryWords, Task,
+};
 use ft_types::{KEEPER_LIMIT, Keeper, Quorum, Term, read_number};
 use std::alloc::Global;
 use std::result::Result;
@@ -220,6 +222,32 @@ fn asking_of<'a>(words: Words<'a>) -> Result<Task<'a>, WordsFault>
     }))
 }
 
+fn checking_of<'a>(words: Words<'a>) -> Result<Task<'a>, WordsFault>
+    ensures usable { IfOk result IsUsable }
+    ensures which { IfOk result (λ task. Checks words.entry task) }
+{
+    let [image, log] = *words.words.as_slice() else {
+        return Err(WordsFault::Usage);
+    };
+    Ok(Task::Check(CheckWords { image, log }))
+}
+
+fn mending_of<'a>(words: Words<'a>) -> Result<Task<'a>, WordsFault>
+    ensures usable { IfOk result IsUsable }
+    ensures which { IfOk result (λ task. Mends words.entry task) }
+{
+    let Words {
+        name: _,
+        words,
+        mut rows,
+    } = words;
+    let [image, log] = *words.as_slice() else {
+        return Err(WordsFault::Usage);
+    };
+    let others = last_of(&mut rows)?;
+    Ok(Task::Mend(MendWords { image, log, others }))
+}
+
 /// The task of these words.
 fn task_of<'a>(words: Words<'a>) -> Result<Task<'a>, WordsFault>
     ensures usable { IfOk result IsUsable }
@@ -231,6 +259,8 @@ fn task_of<'a>(words: Words<'a>) -> Result<Task<'a>, WordsFault>
         "hand" => handing_of(words),
         "primary" => leading_of(words),
         "client" => asking_of(words),
+        "check" => checking_of(words),
+        "mend" => mending_of(words),
         _ => Err(WordsFault::Usage),
     }
 }

@@ -1,0 +1,25 @@
+//! The names of files.
+
+use ends::{Fault, NamedFile, name_at};
+use live_words::{CheckWords, MendWords};
+
+/// The name of the file that a fault names where a log is looked at, which for fences is the log's.
+pub(crate) fn name_in_check<'a>(words: &CheckWords<'a>, fault: &Fault) -> &'a str {
+    match fault {
+        Fault::File(NamedFile::Image) => words.image,
+        Fault::File(NamedFile::Log | NamedFile::Fences) => words.log,
+        _ => "",
+    }
+}
+
+/// The name of the file that a fault names where a log is mended, which for fences is the log's.
+pub(crate) fn name_in_mend<'a>(words: &MendWords<'a>, fault: &Fault) -> &'a str {
+    match fault {
+        Fault::File(NamedFile::Image) => words.image,
+        Fault::File(NamedFile::Log | NamedFile::Fences) => words.log,
+        Fault::File(NamedFile::From(number) | NamedFile::FromFences(number)) => {
+            name_at(&words.others, *number)
+        }
+        _ => "",
+    }
+}
