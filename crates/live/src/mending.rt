@@ -6,9 +6,7 @@ ghost use Rattle.live.specs.Mending.{told_of_mending, told_of_misfit};
 use ends::{Fault, Frames, FramesFault, Host, NamedFile, file_fault, read_file};
 use ft_types::{Guest, first_line};
 use keeper_files::{Disk, Part, open_for_keeper};
-use live_keeper::{
-    HostDisk, HostFiles, Places, beside, files_fault, open_fault, real_name,
-};
+use live_keeper::{HostDisk, HostFiles, Places, beside, files_fault, open_fault, real_name};
 use live_primary::read_image_file;
 use live_words::MendWords;
 use log_mending::{MendFault, Misfit, mend};
