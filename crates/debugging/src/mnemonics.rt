@@ -122,11 +122,11 @@ static ROWS: [Row; 65] = [
 ];
 
 /// The row of a word.
-fn row_of(word: u32) -> Option<Row> {
+fn row_of(word: u32) -> Option<&'static Row> {
     for row in &ROWS {
-        let (mask, bits, _, _) = *row;
-        if word & mask == bits {
-            return Some(*row);
+        let (mask, bits, _, _) = row;
+        if word & *mask == *bits {
+            return Some(row);
         }
     }
     None
@@ -253,9 +253,9 @@ pub fn mnemonic(alloc: Global, pc: u32, word: u32) -> Result<Vec<u8>, Memory> {
     let mut text = Vec::new(alloc);
     match row_of(word) {
         Some((_, _, name, form)) if decode(word).is_some() => {
-            put_name(&mut text, word, &name, form)?;
-            put_registers(&mut text, word, first_registers(form))?;
-            put_rest(&mut text, pc, word, form)?;
+            put_name(&mut text, word, name, *form)?;
+            put_registers(&mut text, word, first_registers(*form))?;
+            put_rest(&mut text, pc, word, *form)?;
         }
         _ => text.extend_from_slice(b"illegal")?,
     }
