@@ -17,7 +17,8 @@ look() {
     local files=() words=(-q -nx -batch -ex 'set architecture riscv:rv32' -ex 'set confirm off' -ex 'set pagination off')
     while [ "$1" != -- ]; do files+=("$1"); shift; done
     shift
-    for command in "$@"; do words+=(-ex "${command//TARGET/target remote | '$workbench' debug ${files[*]}}"); done
+    local target="target remote | $workbench debug ${files[*]}"
+    for command in "$@"; do words+=(-ex "${command/TARGET/$target}"); done
     timeout 300 gdb-multiarch "${words[@]}" 2> "$work/errors"
 }
 
