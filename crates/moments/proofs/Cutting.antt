@@ -15,7 +15,7 @@ use Rattle.hart_replay.specs.declared.plans.PlannedLeg.{PlannedLeg}
 use Rattle.hart_replay.specs.Plans.{IsPlan, log_of}
 use Rattle.hart_replay.proofs.walking.Outcomes.{boot_so_far, booted_none}
 use Rattle.moments.specs.Line.{IsNext, Steps, Standing, standing_at, stepped, turned, Leads}
-use Rattle.moments.specs.Line.Leads.{Begins, StepsOn, TurnsOn}
+use Rattle.moments.specs.Line.{Begins, StepsOn, TurnsOn}
 use Rattle.moments.specs.Laws.{StandsOn, CountsAreCuts}
 use Rattle.moments.specs.machinery.Kept.{IsBegun}
 use Rattle.moments.proofs.Moves.{one_leg}

@@ -20,7 +20,7 @@ use Rattle.hart_replay.specs.Plans.{IsPlan, log_of}
 use Rattle.hart_replay.specs.Replays.{leg_turns, LegLeads, LegsLead, IsOutcome}
 use Rattle.hart_replay.specs.Leading.{AreAtEnds}
 use Rattle.moments.specs.Line.{IsNext, Steps, Standing, standing_at, stepped, turned, turn_in, Leads}
-use Rattle.moments.specs.Line.Leads.{Begins as BeginsThere, StepsOn, TurnsOn}
+use Rattle.moments.specs.Line.{Begins as BeginsThere, StepsOn, TurnsOn}
 use Rattle.moments.specs.Laws.{StandsOn, EndsAreOutcomes}
 use Rattle.moments.specs.machinery.Kept.{IsBegun}
 use Rattle.moments.proofs.Moves.{one_leg}

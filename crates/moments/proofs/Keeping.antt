@@ -7,7 +7,7 @@ use Rattle.hart_replay.specs.declared.plans.PlannedLeg.{PlannedLeg}
 use Rattle.hart_replay.specs.Leading.{AreAtEnds}
 use Rattle.hart_replay.proofs.Fronts.{at_place}
 use Rattle.moments.specs.Line.{IsNext, Steps, Standing, standing_at, stepped, Leads, steps_of}
-use Rattle.moments.specs.Line.Leads.{Begins, StepsOn, TurnsOn}
+use Rattle.moments.specs.Line.{Begins, StepsOn, TurnsOn}
 use Rattle.moments.specs.machinery.Kept.{IsBegun, Stands, IsTimeline, QuietAt, IsTurned}
 use Rattle.moments.proofs.Standings.{holds_at, room, within_all, all_taken}
 

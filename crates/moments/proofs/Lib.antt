@@ -9,3 +9,4 @@ pub mod Passing
 pub mod Keeping
 pub mod Cutting
 pub mod Histories
+pub mod Hits

@@ -13,9 +13,9 @@ use Rattle.hart_replay.specs.Replays.{is_halted}
 use Rattle.hart_replay.specs.Leading.{AreAtEnds}
 use Rattle.hart_replay.proofs.Fronts.{past_all}
 use Rattle.moments.specs.Line.{MayGo, IsNext, ComesFirst, Steps, Standing, stepped, turned, turn_in, Leads}
-use Rattle.moments.specs.Line.Leads.{Begins, StepsOn, TurnsOn}
+use Rattle.moments.specs.Line.{Begins, StepsOn, TurnsOn}
 
-some_is : {A : Type 0} (x y : A) → Some x ≡ Some y → x ≡ y
+pub some_is : {A : Type 0} (x y : A) → Some x ≡ Some y → x ≡ y
 some_is x y e = cc
 
 one_leg : (legs : List PlannedLeg) (place : ℕ) (leg other : PlannedLeg) → slice_get legs place ≡ Some leg → slice_get legs place ≡ Some other → leg ≡ other
@@ -92,20 +92,20 @@ moved legs s t u leads (Step leg hart n at next steps) = StepsOn leg hart n lead
 moved legs s t u leads (Turn leg at ends) = TurnsOn leg leads at ends
 
 -- the line from the first to the second is at its beginning, or begins with a move
-abbrev Parted : List PlannedLeg → Standing → Standing → Type 0
+abbrev pub Parted : List PlannedLeg → Standing → Standing → Type 0
 Parted legs s t = (s ≡ t) ⊎ ((c : Standing) × Move legs s c × Leads legs c t)
 
 part_more : (legs : List PlannedLeg) (s t u : Standing) → Parted legs s t → Move legs t u → Parted legs s u
 part_more legs s t u (inl same) move = inr (u, subst (λ (x : Standing). Move legs x u) (sym same) move, Begins)
 part_more legs s t u (inr (c, first, rest)) move = inr (c, first, moved legs c t u rest move)
 
-parted : (legs : List PlannedLeg) (s t : Standing) → Leads legs s t → Parted legs s t
+pub parted : (legs : List PlannedLeg) (s t : Standing) → Leads legs s t → Parted legs s t
 parted legs s t Begins = inl refl
 parted legs s t (StepsOn {t = u} leg hart n leads at next steps) =
     part_more legs s u t (parted legs s u leads) (Step leg hart n at next steps)
 parted legs s t (TurnsOn {t = u} leg leads at ends) = part_more legs s u t (parted legs s u leads) (Turn leg at ends)
 
-abbrev Along : List PlannedLeg → Standing → Standing → Type 0
+abbrev pub Along : List PlannedLeg → Standing → Standing → Type 0
 Along legs a b = Leads legs a b ⊎ Leads legs b a
 
 along_more : (legs : List PlannedLeg) (b t u : Standing) → Along legs t b → Move legs t u → Along legs u b

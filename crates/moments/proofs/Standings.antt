@@ -14,7 +14,7 @@ use Rattle.hart_replay.specs.Plans.{IsLeg, IsPlan, GoOn, log_of}
 use Rattle.hart_replay.specs.Leading.{AreAtEnds}
 use Rattle.hart_replay.proofs.Fronts.{past_all}
 use Rattle.moments.specs.Line.{MayGo, IsNext, Steps, Standing, standing_at, stepped, turned, turn_in, Leads, ends_of, steps_of}
-use Rattle.moments.specs.Line.Leads.{Begins, StepsOn, TurnsOn}
+use Rattle.moments.specs.Line.{Begins, StepsOn, TurnsOn}
 use Rattle.moments.specs.machinery.Kept.{IsBegun}
 use Rattle.moments.proofs.Sums.{upto, upto_same, upto_less, upto_bump, upto_zero, upto_within, upto_sum, upto_more}
 use Rattle.moments.proofs.Moves.{runs_there, one_leg}

@@ -17,7 +17,7 @@ use rv32_hart::{HartState, RAM_BASE};
 use rv32_isa::{Instr, LoadKind, Reg, StoreKind, decode};
 
 /// Bytes that follow one another.
-#[derive(Clone, Copy, Debug, PartialEq, Eq)]
+#[derive(Clone, Copy, PartialEq, Eq)]
 pub struct Bytes {
     /// The address of the first one.
     pub first: u32,
@@ -26,7 +26,7 @@ pub struct Bytes {
 }
 
 /// Which bytes of RAM a step uses beside the word that it fetches.
-#[derive(Clone, Copy, Debug, PartialEq, Eq)]
+#[derive(Clone, Copy, PartialEq, Eq)]
 pub enum Access {
     /// None.
     Nothing,

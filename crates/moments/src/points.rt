@@ -8,7 +8,7 @@ ghost use Rattle.moments.specs.Points.{Breaks, IsRead, IsWrite, Watches};
 use crate::access::{Access, Bytes, overlap};
 
 /// What is watched.
-#[derive(Clone, Copy, Debug, PartialEq, Eq)]
+#[derive(Clone, Copy)]
 pub enum Watched {
     /// That bytes are read.
     Read,
@@ -19,7 +19,7 @@ pub enum Watched {
 }
 
 /// Where a timeline stops.
-#[derive(Clone, Copy, Debug, PartialEq, Eq)]
+#[derive(Clone, Copy)]
 pub enum Point {
     /// Where the step that comes next is one of a hart whose pc this is.
     Break(u32),
@@ -28,7 +28,7 @@ pub enum Point {
 }
 
 /// Why a timeline stopped.
-#[derive(Clone, Copy, Debug, PartialEq, Eq)]
+#[derive(Clone, Copy, PartialEq, Eq)]
 pub enum Stop {
     /// The point with this number holds.
     At(usize),
