@@ -89,11 +89,8 @@ fn is_watch(reason: Reason) -> bool {
 fn go_before(line: &mut Timeline) -> Result<(), ReplayFault>
     ensures line { IsOfLine line.old line.new }
 {
-    let now = line.now();
-    if now > 0 {
-        line.go_to(now - 1)?;
-    }
-    Ok(())
+    let before = line.now().saturating_sub(1);
+    line.go_to(before)
 }
 
 /// On to a point or to the end. A step that is watched comes next then: gdb takes it before it looks at the word.
