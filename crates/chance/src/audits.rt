@@ -68,7 +68,11 @@ fn ran(alloc: Global, mut book: Book<Recording>, dice: &mut Dice) -> Book<Record
 }
 
 /// What a guest records from boot.
-pub(crate) fn recorded(alloc: Global, image: &Image, dice: &mut Dice) -> Result<Book<Recording>, Memory> {
+pub(crate) fn recorded(
+    alloc: Global,
+    image: &Image,
+    dice: &mut Dice,
+) -> Result<Book<Recording>, Memory> {
     Ok(ran(alloc, recorder_of(alloc, image, 60)?, dice))
 }
 
