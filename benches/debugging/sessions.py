@@ -262,7 +262,7 @@ def record(program, chance):
     with open("image", "w") as file:
         file.write(image)
     with open("script", "w") as file:
-        file.write(script_of(chance, harts).replace(" 2", " ").replace(" 1", " "))
+        file.write(re.sub(r"(?m)^(\d+) (\d+)", lambda line: f"{line[1]} {int(line[2]) // 12}", script_of(chance, harts)))
     status, text, _ = call(program, ["run", "image", "script", str(chance.choice([20, 60, 250])), "log"], SECONDS)
     if status != 0:
         raise Wrong(f"run ended {status}")
