@@ -89,9 +89,9 @@ fn is_watch(reason: Reason) -> bool {
 fn go_before(line: &mut Timeline) -> Result<(), ReplayFault>
     ensures line { IsOfLine line.old line.new }
 {
-    let now = line.now();
-    if now > 0 {
-        line.go_to(now - 1)?;
+    let here = line.now();
+    if here > 0 {
+        line.go_to(here - 1)?;
     }
     Ok(())
 }
