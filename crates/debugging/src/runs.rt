@@ -89,8 +89,11 @@ fn is_watch(reason: Reason) -> bool {
 fn go_before(line: &mut Timeline) -> Result<(), ReplayFault>
     ensures line { IsOfLine line.old line.new }
 {
-    let before = line.now().saturating_sub(1);
-    line.go_to(before)
+    let here = line.now();
+    if here > 0 {
+        line.go_to(here - 1)?;
+    }
+    Ok(())
 }
 
 /// On to a point or to the end. A step that is watched comes next then: gdb takes it before it looks at the word.
