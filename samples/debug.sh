@@ -17,7 +17,8 @@ look() {
     local files=() words=(-q -nx -batch -ex 'set architecture riscv:rv32' -ex 'set confirm off' -ex 'set pagination off')
     while [ "$1" != -- ]; do files+=("$1"); shift; done
     shift
-    for command in "$@"; do words+=(-ex "${command//TARGET/target remote | '$workbench' debug ${files[*]}}"); done
+    local target="target remote | $workbench debug ${files[*]}"
+    for command in "$@"; do words+=(-ex "${command/TARGET/$target}"); done
     timeout 300 gdb-multiarch "${words[@]}" 2> "$work/errors"
 }
 
@@ -71,7 +72,7 @@ else
     logs=("$work"/lua/log.*)
     number=$("$workbench" replay "$image" "${logs[@]}" | awk '$1 == "out" && $6 != "00000000" { print $2; exit }')
     look "$image" "${logs[@]}" -- "file $elf" TARGET "monitor output 0 $number" 'maintenance flush register-cache' 'watch answers[0]' reverse-continue bt > "$work/lua.said"
-    sed -n 's/^#[0-9]* *\(0x[0-9a-f]* in \)*\([a-z_A-Z]*\) (.* at .*lua\.c:\([0-9]*\)$/\2 \3/p' "$work/lua.said" | head -2 > "$work/frames"
+    sed -nE 's/^#[0-9]+ +(0x[0-9a-f]+ in )?([a-z_A-Z]+) \(.* at [^ ]*(console|lua)\.c:([0-9]+)$/\2 \4/p' "$work/lua.said" | head -2 > "$work/frames"
     is 'the functions of Lua that put out the third answer' "$(printf 'put %s\nprint %s' "$(line_of 'answers\[printed++')" "$(line_of 'put(text\[byte\]')")" "$(cat "$work/frames")"
 fi
 

@@ -166,15 +166,21 @@ class Line:
         return any(kind != BREAK and self.steps[moment][1].touches(kind, address, length) for kind, address, length in points)
 
     def onward(self, moment, points):
+        """Where `c` stops: before a step that is watched, which gdb takes before it looks, or at a breakpoint."""
         for later in range(moment + 1, len(self.steps) + 1):
-            if self.is_at(later, points) or self.is_watched(later - 1, points):
+            if self.is_watched(later - 1, points):
+                return later - 1
+            if self.is_at(later, points):
                 return later
         return len(self.steps)
 
     def back(self, moment, points):
+        """Where `bc` stops: behind a step that is watched, or at a breakpoint."""
         for earlier in range(moment - 1, -1, -1):
-            if self.is_at(earlier, points) or self.is_watched(earlier, points):
+            if self.is_at(earlier, points):
                 return earlier
+            if self.is_watched(earlier, points):
+                return earlier + 1
         return 0
 
     def after(self, moment, hart):
@@ -256,7 +262,7 @@ def record(program, chance):
     with open("image", "w") as file:
         file.write(image)
     with open("script", "w") as file:
-        file.write(script_of(chance, harts).replace(" 2", " ").replace(" 1", " "))
+        file.write(re.sub(r"(?m)^(\d+) (\d+)", lambda line: f"{line[1]} {int(line[2]) // 12}", script_of(chance, harts)))
     status, text, _ = call(program, ["run", "image", "script", str(chance.choice([20, 60, 250])), "log"], SECONDS)
     if status != 0:
         raise Wrong(f"run ended {status}")

@@ -20,7 +20,7 @@ const LOG: &[Come] = &[
 ];
 
 /// What is asked, and what is answered.
-static ASKED: [(&str, &str); 66] = [
+static ASKED: [(&str, &str); 72] = [
     ("?", "T05thread:01;"),
     ("qC", "QC01"),
     ("qfThreadInfo", "m01,02"),
@@ -50,18 +50,30 @@ static ASKED: [(&str, &str); 66] = [
     ("Z1,0", "E02"),
     ("Z9,80001000,4", "E02"),
     ("c", "T05watch:80001000;thread:01;"),
+    ("m80001000,4", "00000000"),
+    ("s", "T05thread:01;"),
     ("m80001000,4", "00100080"),
     ("m80001ffe,8", "0000"),
     ("m80002000,4", "E02"),
     ("m7fffffff,2", "E02"),
     ("c", "T05watch:80001000;thread:02;"),
+    ("s", "T05thread:02;"),
     (
         "qRcmd,7768657265",
         "7465726d2031206d6f6d656e742034206f66203820636f756e7473203220320a",
     ),
     ("bc", "T05watch:80001000;thread:02;"),
-    ("m80001000,4", "00100080"),
+    (
+        "qRcmd,7768657265",
+        "7465726d2031206d6f6d656e742034206f66203820636f756e7473203220320a",
+    ),
+    ("bs", "T05thread:02;"),
     ("bc", "T05watch:80001000;thread:01;"),
+    (
+        "qRcmd,7768657265",
+        "7465726d2031206d6f6d656e742033206f66203820636f756e7473203220310a",
+    ),
+    ("bs", "T05thread:01;"),
     ("m80001000,4", "00000000"),
     ("bc", "T05replaylog:begin;thread:01;"),
     ("vCont;s:2;c", "T05thread:02;"),
@@ -145,29 +157,27 @@ fn session(alloc: Global) -> Result<Session, Fail> {
     }
 }
 
-/// Whether the packet is answered so.
-fn is_answered(
-    alloc: Global,
-    session: &mut Session,
-    packet: &str,
-    wanted: &str,
-) -> Result<bool, Memory> {
+/// What the packet is answered.
+fn answered(alloc: Global, session: &mut Session, packet: &str) -> Result<Vec<u8>, Memory> {
     match session.answer(alloc, packet.as_bytes())? {
-        Answer::Says(text) | Answer::SaysLast(text) => Ok(text.as_slice() == wanted.as_bytes()),
-        Answer::Over => Ok(false),
+        Answer::Says(text) | Answer::SaysLast(text) => Ok(text),
+        Answer::Over => Ok(Vec::new(alloc)),
     }
 }
 
 #[test]
 fn sessions(rt: HostRuntime) -> Result<(), Fail> {
     let mut session = session(rt.alloc())?;
+    let mut right = true;
     for (packet, wanted) in &ASKED {
-        let right = is_answered(rt.alloc(), &mut session, packet, wanted)?;
-        if !right {
-            println!(rt; "{packet}")?;
+        let text = answered(rt.alloc(), &mut session, packet)?;
+        if text.as_slice() != wanted.as_bytes() {
+            let said = str::from_utf8(&text).unwrap_or("no text");
+            println!(rt; "{packet} {said}")?;
+            right = false;
         }
-        assert!(rt; right);
     }
+    assert!(rt; right);
     Ok(())
 }
 

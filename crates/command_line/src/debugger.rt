@@ -28,10 +28,12 @@ fn converse<I: Source, O: Sink>(
         }
         let (next, answers) = dialogue.hear(alloc, &piece[..count])?;
         dialogue = next;
-        written(write_all(output, &answers))?;
+        let sent = write_all(output, &answers);
+        // Who leaves need not hear the last answer.
         if dialogue.is_over() {
             break;
         }
+        written(sent)?;
     }
     Ok(())
 }

@@ -83,6 +83,7 @@ fn read_way(packet: &[u8]) -> Command<'_> {
         [b'b', b's'] => Command::Go(Way::StepBack, b""),
         [b'b', b'c'] => Command::Go(Way::ContinueBack, b""),
         [b's' | b'c', ..] => Command::Change,
+        b"vCont?" => Command::Query(packet),
         [b'v', b'C', b'o', b'n', b't', b';', actions @ ..] => read_actions(actions),
         _ => Command::Unknown,
     }

@@ -20,23 +20,42 @@ pub struct Dialogue {
 #[derive(Drop)]
 struct Conversation {
     session: Session,
-    /// The last packet that was sent.
-    last: Vec<u8>,
+    /// What the last packet said.
+    last: Option<Vec<u8>>,
     /// Whether a packet that came is acknowledged.
     acknowledges: bool,
     is_over: bool,
-    ghost sent: { IsSent last.items },
+}
+
+/// Sends the packet that says this.
+#[tactic(auto, using(crate::proofs::Sending::sent_packet, crate::proofs::Sending::adds_sent))]
+fn send(alloc: Global, said: &mut Vec<u8>, text: &[u8]) -> Result<(), Memory>
+    ensures { OnOk result (Adds said.old.items said.new.items) }
+{
+    let packet = write_packet(alloc, text)?;
+    said.extend_from_slice(&packet)?;
+    Ok(())
 }
 
 impl Conversation {
-    /// Sends the packet that says this.
-    #[tactic(auto, using(crate::proofs::Sending::sent_packet, crate::proofs::Sending::adds_sent))]
-    fn send(&mut self, alloc: Global, said: &mut Vec<u8>, text: &[u8]) -> Result<(), Memory>
+    /// Says this, and keeps it.
+    fn say(&mut self, alloc: Global, said: &mut Vec<u8>, text: Vec<u8>) -> Result<(), Memory>
         ensures { OnOk result (Adds said.old.items said.new.items) }
     {
-        self.last = write_packet(alloc, text)?;
-        said.extend_from_slice(&self.last)?;
+        send(alloc, said, &text)?;
+        self.last = Some(text);
         Ok(())
+    }
+
+    /// Says once more what was said last.
+    #[tactic(auto, using(crate::proofs::Sending::adds_none))]
+    fn say_again(&self, alloc: Global, said: &mut Vec<u8>) -> Result<(), Memory>
+        ensures { OnOk result (Adds said.old.items said.new.items) }
+    {
+        match &self.last {
+            Some(text) => send(alloc, said, text),
+            None => Ok(()),
+        }
     }
 
     /// Says, where that is wanted, whether a packet came.
@@ -61,10 +80,10 @@ impl Conversation {
             self.acknowledges = false;
         }
         match self.session.answer(alloc, packet)? {
-            Answer::Says(text) => self.send(alloc, said, &text),
+            Answer::Says(text) => self.say(alloc, said, text),
             Answer::SaysLast(text) => {
                 self.is_over = true;
-                self.send(alloc, said, &text)
+                self.say(alloc, said, text)
             }
             Answer::Over => {
                 self.is_over = true;
@@ -74,17 +93,14 @@ impl Conversation {
     }
 
     /// Hears what gdb sends. An interrupt says nothing: nothing goes on when it is heard.
-    #[tactic(auto, using(crate::proofs::Sending::adds_sent, crate::proofs::Sending::adds_none))]
+    #[tactic(auto, using(crate::proofs::Sending::adds_none))]
     fn hear(&mut self, alloc: Global, said: &mut Vec<u8>, event: &Event) -> Result<(), Memory>
         ensures { OnOk result (Adds said.old.items said.new.items) }
     {
         match event {
             Event::Packet(packet) => self.answer(alloc, said, packet.as_slice()),
             Event::Broken => self.acknowledge(said, b'-'),
-            Event::Again => {
-                said.extend_from_slice(&self.last)?;
-                Ok(())
-            }
+            Event::Again => self.say_again(alloc, said),
             Event::Heard | Event::Interrupt => Ok(()),
         }
     }
@@ -92,13 +108,12 @@ impl Conversation {
 
 impl Dialogue {
     /// A dialogue of which nothing was said, with a session that stands where the timeline does.
-    #[tactic(auto, using(crate::proofs::Sending::sent_none))]
     pub fn begin(alloc: Global, line: Timeline) -> Dialogue {
         Dialogue {
             feed: PacketFeed::new(alloc),
             conversation: Conversation {
                 session: Session::begin(alloc, line),
-                last: Vec::new(alloc),
+                last: None,
                 acknowledges: true,
                 is_over: false,
             },

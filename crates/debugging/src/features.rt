@@ -1,6 +1,6 @@
 //! What gdb is told of the machine.
 
-use crate::names::{named_at, register_name};
+use crate::names::{register_name, trimmed};
 use crate::numbers::read_range;
 use crate::registers::{CSR_NUMBER, PC_NUMBER};
 use ft_types::{LineBuffer, Memory};
@@ -11,7 +11,7 @@ static CSR_NAMES: [u8; 72] =
     *b"mstatus mie     mtvec   mscratchmepc    mcause  mtval   mip     mhartid ";
 
 /// Their addresses.
-static CSR_ADDRESSES: [u32; 9] = [
+static CSR_ADDRESSES: [u16; 9] = [
     0x300, 0x304, 0x305, 0x340, 0x341, 0x342, 0x343, 0x344, 0xf14,
 ];
 
@@ -41,8 +41,9 @@ fn description(alloc: Global) -> Result<Vec<u8>, Memory> {
     put_register(&mut text, b"pc", b"code_ptr", PC_NUMBER)?;
     text.extend_from_slice(b"</feature><feature name=\"org.gnu.gdb.riscv.csr\">")?;
     for number in 0..CSR_ADDRESSES.len() {
-        let name = named_at(&CSR_NAMES, number, 8);
-        put_register(&mut text, name, b"int", CSR_NUMBER + CSR_ADDRESSES[number])?;
+        let name = trimmed(&CSR_NAMES[number * 8..number * 8 + 8]);
+        let address = u32::from(CSR_ADDRESSES[number]);
+        put_register(&mut text, name, b"int", CSR_NUMBER + address)?;
     }
     text.extend_from_slice(b"</feature></target>")?;
     Ok(text)

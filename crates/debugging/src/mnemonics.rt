@@ -122,11 +122,11 @@ static ROWS: [Row; 65] = [
 ];
 
 /// The row of a word.
-fn row_of(word: u32) -> Option<Row> {
+fn row_of(word: u32) -> Option<&'static Row> {
     for row in &ROWS {
-        let (mask, bits, _, _) = *row;
-        if word & mask == bits {
-            return Some(*row);
+        let (mask, bits, _, _) = row;
+        if word & *mask == *bits {
+            return Some(row);
         }
     }
     None
@@ -137,10 +137,9 @@ fn register_at(word: u32, bit: u32) -> &'static [u8] {
     register_name((word >> bit & 31) as u8)
 }
 
-/// The immediate of 12 bits, of which this is the last: the word's value modulo 2 ^ 32.
-fn extended(value: u32, bits: u32) -> u32 {
-    let sign = 1 << (bits - 1);
-    ((value & (2 * sign - 1)) ^ sign).wrapping_sub(sign)
+/// A number whose sign is this bit: its value modulo 2 ^ 32.
+fn extended(value: u32, sign: u32) -> u32 {
+    (value ^ sign).wrapping_sub(sign)
 }
 
 /// How far a branch or a jump leads, modulo 2 ^ 32.
@@ -151,14 +150,14 @@ fn distance(word: u32, form: Form) -> u32 {
                 | (word >> 12 & 0xff) << 12
                 | (word >> 20 & 1) << 11
                 | (word >> 21 & 0x3ff) << 1,
-            21,
+            1 << 20,
         ),
         _ => extended(
             word >> 31 << 12
                 | (word >> 7 & 1) << 11
                 | (word >> 25 & 0x3f) << 5
                 | (word >> 8 & 0xf) << 1,
-            13,
+            1 << 12,
         ),
     }
 }
@@ -183,7 +182,7 @@ fn put_registers(text: &mut Vec<u8>, word: u32, bits: &[u32]) -> Result<(), Memo
 
 /// Puts an address: a distance from what a register says.
 fn put_address(text: &mut Vec<u8>, word: u32, distance: u32) -> Result<(), Memory> {
-    put_signed(text, extended(distance, 12))?;
+    put_signed(text, extended(distance, 1 << 11))?;
     text.push(b'(')?;
     text.extend_from_slice(register_at(word, 15))?;
     text.push(b')')?;
@@ -214,7 +213,7 @@ fn put_rest(text: &mut Vec<u8>, pc: u32, word: u32, form: Form) -> Result<(), Me
         }
         Form::Load => put_address(text, word, word >> 20)?,
         Form::Store => put_address(text, word, word >> 25 << 5 | word >> 7 & 31)?,
-        Form::Immediate => put_signed(text, extended(word >> 20, 12))?,
+        Form::Immediate => put_signed(text, extended(word >> 20, 1 << 11))?,
         Form::Shift => put_number(text, u64::from(word >> 20 & 31))?,
         Form::Registers => text.extend_from_slice(register_at(word, 20))?,
         Form::CsrRegister => {
@@ -253,9 +252,9 @@ pub fn mnemonic(alloc: Global, pc: u32, word: u32) -> Result<Vec<u8>, Memory> {
     let mut text = Vec::new(alloc);
     match row_of(word) {
         Some((_, _, name, form)) if decode(word).is_some() => {
-            put_name(&mut text, word, &name, form)?;
-            put_registers(&mut text, word, first_registers(form))?;
-            put_rest(&mut text, pc, word, form)?;
+            put_name(&mut text, word, name, *form)?;
+            put_registers(&mut text, word, first_registers(*form))?;
+            put_rest(&mut text, pc, word, *form)?;
         }
         _ => text.extend_from_slice(b"illegal")?,
     }

@@ -12,12 +12,8 @@ pub(crate) fn trimmed(name: &[u8]) -> &[u8] {
     }
 }
 
-/// The name with this number, in a table of names of so many bytes.
-pub(crate) fn named_at(names: &[u8], number: usize, bytes: usize) -> &[u8] {
-    trimmed(&names[number * bytes..(number + 1) * bytes])
-}
-
 /// The name of a register.
 pub(crate) fn register_name(number: u8) -> &'static [u8] {
-    named_at(&REGISTER_NAMES, number as usize % 32, 4)
+    let place = (number % 32) as usize * 4;
+    trimmed(&REGISTER_NAMES[place..place + 4])
 }

@@ -21,21 +21,30 @@ pub(crate) fn read_point(text: &[u8]) -> Option<Point> {
     }
 }
 
+/// What tells a point from others: gdb's number of its kind, and its bytes.
+fn key_of(point: Point) -> [u32; 3] {
+    match point {
+        Point::Break(address) => [0, address, 0],
+        Point::Watch(Watched::Write, bytes) => [2, bytes.first, bytes.length],
+        Point::Watch(Watched::Read, bytes) => [3, bytes.first, bytes.length],
+        Point::Watch(Watched::Access, bytes) => [4, bytes.first, bytes.length],
+    }
+}
+
+/// Takes a point away, where it is there.
+pub(crate) fn drop_point(points: &mut Vec<Point>, point: Point) {
+    let key = key_of(point);
+    points.retain(|other| key_of(*other) != key);
+}
+
 /// Puts a point, where it is not there. Whether there was room.
 pub(crate) fn put_point(points: &mut Vec<Point>, point: Point) -> Result<bool, Memory> {
-    if points.contains(&point) {
-        return Ok(true);
-    }
+    drop_point(points, point);
     if points.len() >= POINT_LIMIT {
         return Ok(false);
     }
     points.push(point)?;
     Ok(true)
-}
-
-/// Takes a point away, where it is there.
-pub(crate) fn drop_point(points: &mut Vec<Point>, point: Point) {
-    points.retain(|other| *other != point);
 }
 
 /// The name by which gdb knows why a point stopped, and the address that it wants behind it.

@@ -43,22 +43,6 @@ fn next_hart(line: &Timeline, otherwise: Hart) -> Hart {
     line.next().unwrap_or(otherwise)
 }
 
-/// The hart of the step before; this one, where there was none.
-#[tactic(auto, using(crate::proofs::Lines::led_on))]
-fn last_hart(line: &mut Timeline, otherwise: Hart) -> Result<Hart, ReplayFault>
-    ensures line { IsOfLine line.old line.new }
-    ensures there { OnOk result (line.new.now.moment ≡ line.old.now.moment) }
-{
-    let here = line.now();
-    if here == 0 {
-        return Ok(otherwise);
-    }
-    line.go_to(here - 1)?;
-    let hart = next_hart(line, otherwise);
-    line.go_to(here)?;
-    Ok(hart)
-}
-
 /// On to the first moment at which the hart has one step more. Whether there is one.
 #[tactic(auto, using(crate::proofs::Lines::led_on))]
 pub(crate) fn step(line: &mut Timeline, hart: Hart) -> Result<bool, ReplayFault>
@@ -96,7 +80,23 @@ fn reason_at(points: &[Point], number: usize) -> Reason {
     }
 }
 
-/// On to a point or to the end.
+/// Whether it is a point that watches.
+fn is_watch(reason: Reason) -> bool {
+    matches!(reason, Reason::Point(Point::Watch(_, _)))
+}
+
+/// Back to the moment before, where there is one.
+fn go_before(line: &mut Timeline) -> Result<(), ReplayFault>
+    ensures line { IsOfLine line.old line.new }
+{
+    let here = line.now();
+    if here > 0 {
+        line.go_to(here - 1)?;
+    }
+    Ok(())
+}
+
+/// On to a point or to the end. A step that is watched comes next then: gdb takes it before it looks at the word.
 #[tactic(auto, using(crate::proofs::Lines::led_on))]
 fn go_on(line: &mut Timeline, points: &[Point], hart: Hart) -> Result<Arrival, ReplayFault>
     ensures line { IsOfLine line.old line.new }
@@ -105,14 +105,14 @@ fn go_on(line: &mut Timeline, points: &[Point], hart: Hart) -> Result<Arrival, R
         Stop::At(number) => reason_at(points, number),
         Stop::End | Stop::Begin => Reason::End,
     };
-    let hart = match reason {
-        Reason::Point(Point::Watch(_, _)) => last_hart(line, hart)?,
-        _ => next_hart(line, hart),
-    };
+    if is_watch(reason) {
+        go_before(line)?;
+    }
+    let hart = next_hart(line, hart);
     Ok(Arrival { hart, reason })
 }
 
-/// Back to a point or to the beginning.
+/// Back to a point or to the beginning. A step that is watched was the last one then: gdb takes it back before it looks at the word.
 #[tactic(auto, using(crate::proofs::Lines::led_on))]
 fn go_back(line: &mut Timeline, points: &[Point], hart: Hart) -> Result<Arrival, ReplayFault>
     ensures line { IsOfLine line.old line.new }
@@ -122,6 +122,9 @@ fn go_back(line: &mut Timeline, points: &[Point], hart: Hart) -> Result<Arrival,
         Stop::Begin | Stop::End => Reason::Begin,
     };
     let hart = next_hart(line, hart);
+    if is_watch(reason) {
+        let _is_done = line.forward()?;
+    }
     Ok(Arrival { hart, reason })
 }
 

@@ -1,11 +1,11 @@
 -- A stream is one list of items, and one text under way.
-use Rattle.std.proofs.Common.{◌≡◌, ◌≢◌, ℕ, ◌+◌, ◌≤◌, ◌⊎◌, inl, inr, List, [], ◌∷◌, ◌++◌, length, refl, sym, ap, ◌∙◌, subst, append_assoc, arith, length-append, true, false}
+use Rattle.std.proofs.Common.{◌≡◌, ◌≢◌, ℕ, ◌⊎◌, inl, inr, List, [], ◌∷◌, ◌++◌, length, refl, sym, ap, ◌∙◌, append_assoc, arith, length-append, false}
 use Rattle.std.proofs.lemmas.Bool.{cases_eq, ne_eqb}
 use Rattle.std.specs.List.{flat_map, AllByRecursion}
 use Rattle.gdb_packets.specs.declared.event.Event.{Event}
 use Rattle.gdb_packets.specs.declared.feed.Place.{Place}
 use Rattle.gdb_packets.specs.declared.feed.Place.TheVariants.{Between, Body, Sum, LastDigit}
-use Rattle.gdb_packets.specs.Packets.{is_escaped, escape, body, sum_text, spelling}
+use Rattle.gdb_packets.specs.Packets.{escape, body, sum_text, spelling}
 use Rattle.gdb_packets.specs.Streams.{Item, Byte, Packet, Broken, IsItem, IsBody, Unread, Follows, begun, text_of, events_of, framed}
 use Rattle.gdb_packets.specs.machinery.Unescaped.{unescaped}
 use Rattle.gdb_packets.proofs.Escapes.{said_of_body, sum_length}

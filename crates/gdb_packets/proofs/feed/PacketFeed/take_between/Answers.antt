@@ -1,4 +1,4 @@
-use Rattle.gdb_packets.proofs.Feeds.{follows_byte, follows_begin}
+use Rattle.gdb_packets.proofs.Feeds.{follows_byte}
 use Rattle.gdb_packets.proofs.feed.PacketFeed.take_between.Goals as goal
 
 pub returns-then-byte-ne36 : goal.returns-then-byte-ne36

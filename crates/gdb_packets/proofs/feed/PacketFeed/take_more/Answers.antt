@@ -1,4 +1,4 @@
-use Rattle.std.proofs.Common.{ℕ, List, sym, subst}
+use Rattle.std.proofs.Common.{sym, subst}
 use Rattle.gdb_packets.specs.Streams.{Unread, Follows}
 use Rattle.gdb_packets.specs.machinery.Steps.{IsInside}
 use Rattle.gdb_packets.proofs.Feeds.{follows_inside}
