@@ -1,6 +1,6 @@
 //! What the threads of a primary share: whoever brings events takes them, and leads the first rounds behind a request, where no other thread does so.
 
-use crate::duty::Helm;
+use crate::helm::Helm;
 use crossbeam_channel::{Receiver as TurnReceiver, Sender as TurnSender, bounded};
 use ends::{Event, Fault, Pen, Receiver, Taker};
 use ft_types::Memory;

@@ -2,13 +2,13 @@
 #![tactic(auto)]
 
 mod bridge;
-mod duty;
 mod faults;
+mod helm;
 mod names;
 mod office;
 mod outset;
 mod pairs;
 mod reading;
 
-pub use duty::lead;
+pub use helm::lead;
 pub use outset::read_image_file;

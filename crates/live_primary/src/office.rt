@@ -73,14 +73,20 @@ impl Office {
         )?;
         let _waits = leave_all(rt, &mut keepers, frames, Writer::Thread)?;
         let requests = words.requests.len();
-        let reader = Reader { guest, requests };
-        let for_clients = listen_all(rt, 0, &words.requests, Listening::Paced, reader, to)?;
+        let for_clients = listen_all(
+            rt,
+            0,
+            &words.requests,
+            Listening::Paced,
+            Reader { guest, requests },
+            to,
+        )?;
         let for_keepers = listen_all(
             rt,
             requests,
             &words.acknowledgements,
             Listening::Relieved,
-            reader,
+            Reader { guest, requests },
             to,
         )?;
         let office = Office {

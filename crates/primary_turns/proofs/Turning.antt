@@ -1,5 +1,5 @@
 -- What is said is taken, one behind the other.
-use Rattle.std.proofs.Common.{◌≡◌, ◌<◌, ◌++◌, ◌∷◌, [], ◌∙◌, ℕ, zero, suc, List, Bool, true, false, refl, ap, sym, subst, absurd, append-nil, append_assoc, arith}
+use Rattle.std.proofs.Common.{◌≡◌, ◌<◌, ◌++◌, ◌∷◌, [], ◌∙◌, ℕ, zero, suc, List, Bool, true, false, refl, ap, sym, subst, append-nil, append_assoc, arith}
 use Rattle.std.proofs.lemmas.Bool.{false≢true}
 use Rattle.primary_turns.specs.declared.deeds.Deed.{Deed}
 use Rattle.primary_turns.specs.declared.said.Said.{Said}

@@ -1,5 +1,5 @@
 -- What is to be done, and what of it was told.
-use Rattle.std.specs.Prelude.{◌≡◌, ◌+◌, ◌⊎◌, ◌++◌, ◌∷◌, [], ℕ, List, Option, None, Some, Bool, length, drop, map, slice_get, slice_set}
+use Rattle.std.specs.Prelude.{◌≡◌, ◌+◌, ◌⊎◌, ◌++◌, ◌∷◌, [], ℕ, List, Option, Some, map, slice_get, slice_set}
 use Rattle.requests.specs.declared.queue.Came.TheVariants.{Full as IsFull}
 use Rattle.primary.specs.declared.released.Released.{Released}
 use Rattle.wire.specs.Requests.{hart_of}
@@ -8,7 +8,7 @@ use Rattle.leading.specs.Telling.{told_in}
 use Rattle.leading.specs.declared.heard.Heard.{Heard}
 use Rattle.leading.specs.declared.heard.Heard.TheVariants as heard
 use Rattle.primary_turns.specs.declared.deeds.Deed.{Deed}
-use Rattle.primary_turns.specs.declared.deeds.Deed.TheVariants.{Send, Tell, Full, Anew, HasRead, AnswersRead}
+use Rattle.primary_turns.specs.declared.deeds.Deed.TheVariants.{Send, Tell, Full, HasRead, AnswersRead}
 use Rattle.primary_turns.specs.declared.deeds.Extent.{Extent}
 
 -- to what was to be done this is added

@@ -1,5 +1,5 @@
 -- What a primary that leads does with what is said to it, and in its rounds: calls of its leader, and the deeds that follow each.
-use Rattle.std.specs.Prelude.{◌≡◌, ◌≢◌, ◌<◌, ◌⊎◌, ◌++◌, ◌∷◌, [], ℕ, List, Option, Some, length, drop, map, slice_get}
+use Rattle.std.specs.Prelude.{◌≡◌, ◌≢◌, ◌⊎◌, ◌++◌, ◌∷◌, [], ℕ, List, Option, Some, length, drop}
 use Rattle.std.specs.List.{flat_map}
 use Rattle.fragment_codec.specs.Streams.{spelling}
 use Rattle.fragment_codec.specs.declared.frame.Frame.{Frame}

@@ -1,7 +1,7 @@
 use Rattle.std.proofs.Common.{◌<◌, map, length, take, arith}
 use Rattle.log_join.specs.Stores.{nothing}
 use Rattle.go_live.proofs.Joins.{joined_more}
-use Rattle.live_primary.proofs.Taken.{taken_more}
+use Rattle.primary_turns.proofs.Taken.{taken_more}
 use Rattle.live_primary.proofs.outset.joined.Goals as goal
 
 pub loop-log-preserved : goal.loop-log-preserved

@@ -1,6 +1,6 @@
-use Rattle.std.proofs.Common.{◌≡◌, ◌<◌, ◌≤◌, ◌+◌, ◌++◌, ◌∙◌, List, length, map, take, ap, arith}
+use Rattle.std.proofs.Common.{◌<◌, ◌≤◌, ◌+◌, ◌++◌, ◌∙◌, List, length, map, take, ap, arith}
 use Rattle.std.proofs.lemmas.List.{length-map, take_all}
-use Rattle.primary_turns.specs.Deeds.{noted, tells}
+use Rattle.primary_turns.specs.Deeds.{noted}
 use Rattle.primary_turns.specs.declared.deeds.Deed.{Deed}
 use Rattle.primary_turns.proofs.Adding.{noted_more, one_more, tells_each, told_one}
 use Rattle.primary_turns.proofs.Taken.{taken_more}
