@@ -1,8 +1,8 @@
 #!/bin/sh
-# check.sh [PROGRAM]: runs what README.md, docs/GUIDE.md and docs/FAILOVER.md print, as printed, in a fresh copy of the repository, and compares
-# the answers that they show; then runs each guest of guests/ and replays its log, looks at names and lengths of the documents (tools/names), refuses
-# memory to the rows of benches/refusals, kills keepers and primaries that are processes (samples/live), refuses their file calls, and sends them
-# what is changed by chance (benches/live). PROGRAM is the built workbench, by itself the one that `.ci/run` and `rt run` leave. The last line is
+# check.sh [PROGRAM]: runs what README.md, docs/GUIDE.md, docs/FAILOVER.md and docs/OPERATING.md print, as printed, in a fresh copy of the repository, and compares
+# the answers that they show; then runs each guest of guests/ and replays its log, looks at names and lengths of the documents (tools/names), at versions, manual pages, units
+# and the package (tools/version, tools/manual, samples/package.sh), refuses memory to the rows of benches/refusals, kills keepers and primaries that are processes
+# (samples/live), refuses their file calls, and sends them what is changed by chance (benches/live). PROGRAM is the built workbench, by itself the one that `.ci/run` and `rt run` leave. The last line is
 # 'N passed, N failed'. Needs rt; what needs more is left out where that is not there.
 #
 # In these documents each indented block is typed into a shell of its own at the top of the repository. Where it has lines that begin with
@@ -30,10 +30,13 @@ if [ -x "$live" ]; then
     cp "$live" "$fresh/crates/live/out/live"
 fi
 lua=$top/guests/out/-O2/lua.image
-if [ -f "$lua" ]; then
-    mkdir -p "$fresh/guests/out/-O2"
-    cp "$lua" "$fresh/guests/out/-O2/lua.image"
-fi
+sqlite=$top/guests/out/-O2/sqlite.image
+for image in "$lua" "$sqlite"; do
+    if [ -f "$image" ]; then
+        mkdir -p "$fresh/guests/out/-O2"
+        cp "$image" "$fresh/guests/out/-O2/"
+    fi
+done
 
 pass() {
     passed=$((passed + 1))
@@ -46,6 +49,9 @@ fail() {
     sed -n '1,20s/^/    /p'
 }
 
+# Whether processes can be joined by socat between namespaces of the network.
+has_namespaces() { command -v socat > /dev/null && ip netns add wazhilom.tried 2> /dev/null && ip netns del wazhilom.tried; }
+
 # lacks BLOCK: why a block is left out; nothing where it is run.
 lacks() {
     if grep -q '\.ci/run' "$1"; then
@@ -56,16 +62,22 @@ lacks() {
         echo "this program was built by rt try"
     elif grep -q 'rt run' "$1"; then
         echo "it proves every crate below the program, for half an hour"
-    elif grep -q 'samples/live' "$1" && [ ! -x "$fresh/crates/live/out/live" ]; then
+    elif grep -q -e 'samples/live' -e 'crates/live/out/live' -e 'samples/three' -e 'make .*install' "$1" && [ ! -x "$fresh/crates/live/out/live" ]; then
         echo "there is no $live"
+    elif grep -q 'samples/three' "$1" && ! has_namespaces; then
+        echo "there is no socat or no right to make namespaces"
     elif grep -q 'samples/live' "$1" && ! command -v bash > /dev/null; then
         echo "no bash is installed"
     elif grep -q 'pair.sh .* lua' "$1" && [ ! -f "$lua" ]; then
         echo "there is no $lua"
+    elif grep -q 'pair.sh .* sqlite' "$1" && [ ! -f "$sqlite" ]; then
+        echo "there is no $sqlite"
     elif grep -q 'apt-get' "$1"; then
         echo "it installs packages"
-    elif grep -q 'make ' "$1" && [ "$(riscv64-unknown-elf-gcc -dumpfullversion 2> /dev/null)" != 12.2.0 ]; then
+    elif grep -q 'make -' "$1" && ! grep -q 'make .*install' "$1" && [ "$(riscv64-unknown-elf-gcc -dumpfullversion 2> /dev/null)" != 12.2.0 ]; then
         echo "riscv64-unknown-elf-gcc 12.2.0 is not installed"
+    elif grep -q 'gdb-multiarch' "$1" && ! command -v gdb-multiarch > /dev/null; then
+        echo "no gdb-multiarch is installed"
     elif grep -q 'broker' "$1" && ! command -v redis-server > /dev/null; then
         echo "no redis-server is installed"
     elif grep -q 'python3' "$1" && ! command -v python3 > /dev/null; then
@@ -126,7 +138,7 @@ run_block() {
     done
 }
 
-for document in README.md docs/GUIDE.md docs/FAILOVER.md; do
+for document in README.md docs/GUIDE.md docs/FAILOVER.md docs/OPERATING.md; do
     blocks "$fresh/$document" "$work/$(basename "$document")"
     [ -f "$work/$(basename "$document")/001" ] || fail "$document: it prints no command" < /dev/null
     for block in "$work/$(basename "$document")"/*; do
@@ -164,6 +176,38 @@ else
     fail "names and lengths of the documents" < "$work/names"
 fi
 
+# Versions are one, what programs tell of their forms stands in docs/FORMATS.md and in share/, units are right, and the package works without the kit.
+if ! command -v python3 > /dev/null; then
+    echo "left out tools/version and tools/manual, since no python3 is installed"
+else
+    if "$top/tools/version" > "$work/versions"; then pass; else fail "versions" < "$work/versions"; fi
+    if [ -x "$live" ]; then
+        if "$top/tools/manual" "$live" "$program" "$work/share" > "$work/differs" 2>&1 && diff -r "$top/share" "$work/share" > "$work/differs"; then pass; else fail "manual pages and completion" < "$work/differs"; fi
+        for build in "$live" "$program"; do
+            for form in $("$build" --help | sed -n '/^Commands:/,/^$/s/^  \([a-z]*\) .*/\1/p'); do
+                usage=$("$build" "$form" --help | sed -n 's/^Usage: [a-z]* //p' | sed 's/ \[.*//')
+                if grep -qF "\`$usage\`" "$top/docs/FORMATS.md"; then pass; else fail "docs/FORMATS.md has no $usage" < /dev/null; fi
+            done
+        done
+    else
+        echo "left out manual pages and completion, since there is no $live"
+    fi
+fi
+if command -v systemd-analyze > /dev/null; then
+    mkdir "$work/units"
+    for unit in "$top"/samples/systemd/*.service; do sed "s|/usr/share/wazhilom|$top|" "$unit" > "$work/units/$(basename "$unit")"; done
+    if systemd-analyze verify "$work"/units/*.service > "$work/differs" 2>&1 && [ ! -s "$work/differs" ]; then pass; else fail "units of samples/systemd" < "$work/differs"; fi
+else
+    echo "left out samples/systemd, since no systemd-analyze is installed"
+fi
+if [ ! -x "$live" ] || ! command -v dpkg-buildpackage > /dev/null || ! unshare -m true 2> /dev/null; then
+    echo "left out samples/package.sh, since there is no $live, no dpkg-buildpackage or no right to make namespaces"
+elif bash "$top/samples/package.sh" "$live" "$program" > "$work/packed" 2>&1; then
+    pass
+else
+    fail "the package" < "$work/packed"
+fi
+
 # At most 40 growths of each row are refused, in some ten seconds.
 if [ -n "${TRIED:-}" ]; then
     echo "left out benches/refusals, since a program of rt try has a malloc of its own"
@@ -185,6 +229,22 @@ elif sh "$top/benches/programs/measure.sh" "$program" "$([ -n "${TRIED:-}" ] && 
     pass
 else
     fail "guests whose instructions fall by chance" < "$work/differ"
+fi
+
+# A hundred sessions of a debugger by chance, ten by a program of `rt try`, and gdb over logs, backwards.
+if ! command -v python3 > /dev/null || [ ! -d /dev/shm ]; then
+    echo "left out benches/debugging, since python3 or /dev/shm is not there"
+elif sh "$top/benches/debugging/measure.sh" "$program" "$([ -n "${TRIED:-}" ] && echo 10 || echo 100)" > "$work/differ" 2>&1; then
+    pass
+else
+    fail "sessions of a debugger by chance" < "$work/differ"
+fi
+if ! command -v gdb-multiarch > /dev/null || ! command -v bash > /dev/null; then
+    echo "left out samples/debug.sh, since no gdb-multiarch or bash is installed"
+elif bash "$top/samples/debug.sh" "$program" "$live" > "$work/looked" 2>&1; then
+    pass
+else
+    fail "gdb over logs" < "$work/looked"
 fi
 
 # Three keepers over FIFOs: one is killed and begins again, two hand their logs over behind a fence, in some twenty seconds. Then primaries and clients
@@ -234,18 +294,23 @@ elif [ -x "$live" ] && command -v bash > /dev/null; then
     else
         echo "left out Lua on primaries that are processes, since there is no $lua"
     fi
+    if [ -f "$sqlite" ] && python3 -c 'import sqlite3' 2> /dev/null; then
+        drills "SQLite beside the host's" sqlite.sh 10
+    else
+        echo "left out SQLite beside the host's, since there is no $sqlite or no python3 with SQLite"
+    fi
     if command -v redis-server > /dev/null && command -v python3 > /dev/null; then
         drills 'processes over a Redis server' carried.sh 10 1 200 redis
     else
         echo "left out processes over a Redis server, since no redis-server or python3 is installed"
     fi
-    if command -v socat > /dev/null && ip netns add wazhilom.tried 2> /dev/null; then
-        ip netns del wazhilom.tried
+    if has_namespaces; then
         drills 'processes in two network namespaces' carried.sh 10 1 200 socat
     else
         echo "left out processes in two network namespaces, since there is no socat or no right to make them"
     fi
     drills 'what goes amiss between processes' amiss.sh
+    drills 'what is told of logs, and how they are mended' mend.sh
     if ! command -v cc > /dev/null; then
         echo "left out samples/live/power.sh, since no C compiler is installed"
     elif bash "$top/samples/live/power.sh" "$live" 2 > "$work/drills" 2>&1; then

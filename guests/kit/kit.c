@@ -74,6 +74,9 @@ void trap(uint32_t cause)
     }
 }
 
+/* A guest over a C library has these from there. */
+#ifndef HAS_LIBRARY
+
 void *memset(void *to, int byte, size_t length)
 {
     unsigned char *at = to;
@@ -110,3 +113,5 @@ int memcmp(const void *one, const void *other, size_t length)
             return *a - *b;
     return 0;
 }
+
+#endif

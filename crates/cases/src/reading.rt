@@ -1,4 +1,31 @@
 //! The lines of a case file: headings, and the content below each; and the words of a line.
+//!
+//! `#` begins a comment; lines that begin with two spaces are the content of the line above, without them.
+//!
+//! text NAME                      named text: the lines below, each with a line feed
+//! bytes NAME                     named bytes: the lines below, in hex
+//! case WHAT IT SHOWS             begins a case
+//! words run image script 9 out   words for the program, by one space; several lines append
+//! word TEXT                      one more, as it stands
+//! spelled HEX                    one more, by its bytes
+//! threads                        by the program's threads, else in turn; `pair` wants it
+//! file FILE                      a file that it finds: the lines below
+//! file FILE = NAME               the same, named
+//! frames FILE of IMAGE           frames of the guest of the named image, by parts:
+//!   opening TERM PARENT BASE..
+//!   piece TERM HART PLACE FROM TO [RECORD..]   edge AT OTHER AFTER, word AT XXXXXXXX, timer AT, bell AT HART, note AT NUMBER
+//!   bytes HEX
+//!   cut N, turn N                of the last frame only its first N bytes; byte N with its highest bit turned
+//! front N, turned N, failing N   the same of the last file; a read fails after N
+//! unread                         nothing of it may be read
+//! each front M N, each failing M N, each room M N, each holds M N   one call for each number from M to N
+//! each byte M N XX YY            one call for each byte from M to N of the last file, and each other value from XX to YY in its place
+//! makes FILE, makes frames FILE of IMAGE, makes FILE = NAME   the file that is made, and what it must hold
+//! makes-any FILE                 a file may be made, whatever it holds
+//! holds N                        there is room for N bytes in it
+//! room N                         room for N bytes on standard output: so much of it comes
+//! status N                       0 if left out
+//! out, out = NAME, err, err = NAME   what is written: the lines below, or a named text; several in order
 
 use ft_types::{HART_LIMIT, Hart};
 use std::alloc::Global;

@@ -1,17 +1,22 @@
 //! The commands of the program.
 
 ghost use Rattle.std.specs.Prelude.{◌≡◌, codes, length, IfOk};
+ghost use Rattle.std.specs.Io.KnownBytes.{Appends};
 ghost use Rattle.ft_types.specs.Text.{line};
 ghost use Rattle.scripts.specs.Script.{AreOffered};
 ghost use Rattle.command_line.specs.Faults.{words_line};
 ghost use Rattle.command_line.specs.Writing.{Ends, WritesSome};
 
 use crate::audits::audit_streams;
+use crate::debugger::debug_streams;
 use crate::failing_over::fail_over;
 use crate::faults::{CommandFault, named_in, status_of, write_fault, write_words_fault, written};
 use crate::files::Files;
-use crate::words::{NamedFile, Request, Task, read_words};
-use ft_types::{Sink, Source};
+use crate::graphs::graph_streams;
+use crate::looking_back::replay_streams_at;
+use crate::tracing::trace_streams;
+use crate::words::{NamedFile, Place, Request, Task, asked_text, read_words};
+use ft_types::{Count, Sink, Source, write_all};
 use guest_image::{Image, read_image};
 use log_join::Store;
 use log_streams::{
@@ -198,6 +203,61 @@ fn audit_logs<F: Files, W: Sink>(
     audit_streams(alloc, image, &mut readers, out)
 }
 
+/// Draws the logs.
+fn graph_logs<F: Files, P: Replays, W: Sink>(
+    alloc: Global,
+    image: &Image,
+    names: &[&str],
+    files: &mut F,
+    replays: &P,
+    out: &mut W,
+) -> Result<(), CommandFault>
+    requires { P.may_run replays.now }
+{
+    let mut readers = open_logs(alloc, names, files)?;
+    graph_streams(alloc, image, &mut readers, replays, out)
+}
+
+/// Writes the text of the machine to which the logs lead at a place.
+fn replay_logs_at<F: Files, W: Sink>(
+    alloc: Global,
+    image: &Image,
+    names: &[&str],
+    place: Place,
+    files: &mut F,
+    out: &mut W,
+) -> Result<(), CommandFault> {
+    let mut readers = open_logs(alloc, names, files)?;
+    replay_streams_at(alloc, image, &mut readers, place, out)
+}
+
+/// Writes a line for each of these steps of a hart.
+fn trace_logs<F: Files, W: Sink>(
+    alloc: Global,
+    image: &Image,
+    names: &[&str],
+    from: Place,
+    to: Count,
+    files: &mut F,
+    out: &mut W,
+) -> Result<(), CommandFault> {
+    let mut readers = open_logs(alloc, names, files)?;
+    trace_streams(alloc, image, &mut readers, from, to, out)
+}
+
+/// Answers a debugger that looks at the logs.
+fn debug_logs<F: Files>(
+    alloc: Global,
+    image: &Image,
+    names: &[&str],
+    files: &mut F,
+) -> Result<(), CommandFault> {
+    let mut readers = open_logs(alloc, names, files)?;
+    let mut input = files.input();
+    let mut output = files.output();
+    debug_streams(alloc, image, &mut readers, &mut input, &mut output)
+}
+
 /// Runs a primary with what the request's script offers.
 fn run_script<F: Files, P: Runs>(
     alloc: Global,
@@ -311,12 +371,16 @@ fn run_task<F: Files, P: Pairs, W: Sink>(
         Task::Run { budget, .. } => record(alloc, image, *budget, request, files, pairs, out),
         Task::Cut(logs) => cut_logs(alloc, image, logs, files, out),
         Task::Audit(logs) => audit_logs(alloc, image, logs, files, out),
+        Task::Graph(logs) => graph_logs(alloc, image, logs, files, pairs, out),
         Task::Pair {
             orders,
             is_warm,
             ..
         } => pair_script(alloc, image, orders, *is_warm, request, files, pairs, out),
         Task::FailOver { quorum, .. } => apply_events(alloc, image, *quorum, request, files, out),
+        Task::ReplayAt { place, logs } => replay_logs_at(alloc, image, logs, *place, files, out),
+        Task::Trace { from, to, logs } => trace_logs(alloc, image, logs, *from, *to, files, out),
+        Task::Debug(logs) => debug_logs(alloc, image, logs, files),
     }
 }
 
@@ -392,6 +456,37 @@ pub fn command<F: Files, P: Pairs, W: Sink, E: Sink>(
 {
     match read_words(alloc, words) {
         Ok(request) => run_and_tell(alloc, &request, files, pairs, out, err),
+        Err(fault) => no_request(fault, err),
+    }
+}
+
+/// Tells a text, and gives the status that the program ends with.
+fn tell_text<W: Sink, E: Sink>(text: &str, out: &mut W, err: &mut E) -> u8
+    ensures text { result ≡ 0 → Appends (W.bytes out.old) (W.bytes out.new) text.now }
+    ensures ends { Ends result (E.bytes err.old) (E.bytes err.new) (E.failures err.old) (E.failures err.new) }
+{
+    match write_all(out, text.as_bytes()) {
+        Ok(()) => 0,
+        Err(_) => no_output(err),
+    }
+}
+
+/// Tells the text that the words ask for, of a program of this version, or does what they ask for, and gives the status that the program ends with.
+pub fn answer<F: Files, P: Pairs, W: Sink, E: Sink>(
+    alloc: Global,
+    version: &'static str,
+    words: &[String],
+    files: &mut F,
+    pairs: &P,
+    out: &mut W,
+    err: &mut E,
+) -> u8
+    requires { P.may_run pairs.now }
+    ensures ends { Ends result (E.bytes err.old) (E.bytes err.new) (E.failures err.old) (E.failures err.new) }
+{
+    match asked_text(alloc, version, words) {
+        Ok(Some(text)) => tell_text(text.as_str(), out, err),
+        Ok(None) => command(alloc, words, files, pairs, out, err),
         Err(fault) => no_request(fault, err),
     }
 }

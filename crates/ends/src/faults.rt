@@ -20,6 +20,10 @@ pub enum NamedFile {
     Words,
     /// What was handed over, with this number, from 0 on.
     Handed(usize),
+    /// The other log with this number, from 0 on, from which one is mended.
+    From(usize),
+    /// The fences beside that.
+    FromFences(usize),
     /// The input with this number, from 0 on.
     Input(usize),
     /// The output with this number, from 0 on.
@@ -35,6 +39,8 @@ pub enum Frames {
     Input(usize),
     /// In what was handed over, with this number.
     Handed(usize),
+    /// In the other log with this number, from which one is mended.
+    From(usize),
     /// In all that was handed over.
     AllHanded,
 }
@@ -45,12 +51,15 @@ impl Frames {
             Frames::Log => "log",
             Frames::Input(_) => "input",
             Frames::Handed(_) | Frames::AllHanded => "handed",
+            Frames::From(_) => "from",
         }
     }
 
     fn number(&self) -> Option<u64> {
         match self {
-            Frames::Input(number) | Frames::Handed(number) => Some(*number as u64),
+            Frames::Input(number) | Frames::Handed(number) | Frames::From(number) => {
+                Some(*number as u64)
+            }
             _ => None,
         }
     }
@@ -134,6 +143,8 @@ pub enum Fault {
     OtherLog,
     /// The fences are another file than the one that was made.
     OtherFences,
+    /// A whole frame stands behind the log's first fault.
+    Behind,
     /// What is wrong with the frames that are there.
     Frames(Frames, FramesFault),
     /// The log was handed over to this term, which is not below the one that asks.
@@ -183,6 +194,7 @@ impl Fault {
             Fault::OtherKeeper => "log keeper",
             Fault::OtherLog => "log other",
             Fault::OtherFences => "log fences",
+            Fault::Behind => "log behind",
             Fault::Frames(frames, _) => frames.words(),
             Fault::Fenced(_) => "fence",
             Fault::Live(_) => "live",
@@ -260,7 +272,7 @@ fn write_name<W: fmt::Write>(file: NamedFile, name: &str, f: &mut Formatter<W>) 
     f.write_str(" ")?;
     write_in_line(name, f)?;
     match file {
-        NamedFile::Fences => f.write_str(".fences"),
+        NamedFile::Fences | NamedFile::FromFences(_) => f.write_str(".fences"),
         _ => Ok(()),
     }
 }

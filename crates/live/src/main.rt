@@ -2,29 +2,23 @@
 //! FIFOs or files.
 #![tactic(auto)]
 
-mod desk;
-mod events;
-mod faults;
-mod files;
-mod handing;
-mod keeping;
-mod listening;
-mod making;
+mod checking;
+mod mending;
 mod names;
-mod posting;
 
 ghost use Rattle.std.specs.Prelude.{◌≤◌};
 
-use crate::handing::hand;
-use crate::keeping::keep;
-use crate::making::make;
-use crate::names::{name_in_hand, name_in_keeper, name_in_make};
+use crate::checking::check_log;
+use crate::mending::mend_log;
+use crate::names::{name_in_check, name_in_mend};
 use ends::{Fault, Host, refuse, tell};
 use live_client::ask;
+use live_keeper::{hand, keep, make};
 use live_primary::lead;
-use live_words::{HandWords, KeeperWords, MakeWords, Task, WordsFault, read_task};
+use live_words::{CheckWords, MendWords, Task, WordsFault, asked_text, read_task};
 use std::process::ExitCode;
 use std::{env, io};
+use version::VERSION;
 
 /// The arguments, but the program's name.
 fn arguments(rt: &HostRuntime) -> io::Result<Vec<String>> {
@@ -37,37 +31,25 @@ fn arguments(rt: &HostRuntime) -> io::Result<Vec<String>> {
     Ok(words)
 }
 
-fn make_and_tell<H: Host>(rt: &H, words: &MakeWords<'_>) -> u8
+fn check_and_tell<H: Host>(rt: &H, words: &CheckWords<'_>) -> u8
     ensures { result ≤ 1 }
 {
-    match make(rt, words) {
+    match check_log(rt, words) {
         Ok(status) => status,
         Err(fault) => {
-            tell(rt, &fault, name_in_make(words, &fault));
+            tell(rt, &fault, name_in_check(words, &fault));
             1
         }
     }
 }
 
-fn keep_and_tell<H: Host>(rt: &H, words: &KeeperWords<'_>) -> u8
+fn mend_and_tell<H: Host>(rt: &H, words: &MendWords<'_>) -> u8
     ensures { result ≤ 1 }
 {
-    match keep(rt, words) {
+    match mend_log(rt, words) {
         Ok(status) => status,
         Err(fault) => {
-            tell(rt, &fault, name_in_keeper(words, &fault));
-            1
-        }
-    }
-}
-
-fn hand_and_tell<H: Host>(rt: &H, words: &HandWords<'_>) -> u8
-    ensures { result ≤ 1 }
-{
-    match hand(rt, words) {
-        Ok(status) => status,
-        Err(fault) => {
-            tell(rt, &fault, name_in_hand(words, &fault));
+            tell(rt, &fault, name_in_mend(words, &fault));
             1
         }
     }
@@ -78,11 +60,13 @@ fn run<H: Host>(rt: &H, task: &Task<'_>) -> u8
     ensures { result ≤ 2 }
 {
     match task {
-        Task::Make(words) => make_and_tell(rt, words),
-        Task::Keeper(words) => keep_and_tell(rt, words),
-        Task::Hand(words) => hand_and_tell(rt, words),
+        Task::Make(words) => make(rt, words),
+        Task::Keeper(words) => keep(rt, words),
+        Task::Hand(words) => hand(rt, words),
         Task::Primary(words) => lead(rt, words),
         Task::Client(words) => ask(rt, words),
+        Task::Check(words) => check_and_tell(rt, words),
+        Task::Mend(words) => mend_and_tell(rt, words),
     }
 }
 
@@ -93,13 +77,40 @@ fn fault_of(error: &io::Error) -> Fault {
     }
 }
 
-fn command<H: Host>(rt: &H, words: &[String]) -> u8
+fn refuse_words<H: Host>(rt: &H, fault: WordsFault) -> u8
+    ensures { result ≤ 2 }
+{
+    match fault {
+        WordsFault::Usage => refuse(rt, &Fault::Usage, ""),
+        WordsFault::Memory => refuse(rt, &Fault::Memory, ""),
+    }
+}
+
+fn tell_text<H: Host>(rt: &H, text: &str) -> u8
+    ensures { result ≤ 2 }
+{
+    match print!(rt; "{text}") {
+        Ok(()) => 0,
+        Err(_) => refuse(rt, &Fault::Write, ""),
+    }
+}
+
+fn task<H: Host>(rt: &H, words: &[String]) -> u8
     ensures { result ≤ 2 }
 {
     match read_task(rt.alloc(), words) {
         Ok(task) => run(rt, &task),
-        Err(WordsFault::Usage) => refuse(rt, &Fault::Usage, ""),
-        Err(WordsFault::Memory) => refuse(rt, &Fault::Memory, ""),
+        Err(fault) => refuse_words(rt, fault),
+    }
+}
+
+fn command<H: Host>(rt: &H, words: &[String]) -> u8
+    ensures { result ≤ 2 }
+{
+    match asked_text(rt.alloc(), VERSION, words) {
+        Ok(Some(text)) => tell_text(rt, text.as_str()),
+        Ok(None) => task(rt, words),
+        Err(fault) => refuse_words(rt, fault),
     }
 }
 

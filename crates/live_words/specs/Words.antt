@@ -3,7 +3,7 @@ use Rattle.std.specs.Prelude.{◌≡◌, ◌++◌, ◌⊎◌, ℕ, List, [], ◌
 use Rattle.ft_types.specs.Text.{IsNumber}
 use Rattle.word_forms.specs.declared.matching.Words.{Words}
 use Rattle.live_words.specs.declared.tasks.Task.{Task}
-use Rattle.live_words.specs.declared.tasks.Task.TheVariants.{Make, Keeper, Hand, Primary, Client}
+use Rattle.live_words.specs.declared.tasks.Task.TheVariants.{Make, Keeper, Hand, Primary, Client, Check, Mend}
 use Rattle.wire.specs.Pairs.{IsLongWord}
 
 -- the rows end in these
@@ -50,8 +50,20 @@ Asks words (Client w) =
     EndIn words.rows.items (w.requests ∷ w.answers ∷ [])
 Asks words other = ⊥
 
+-- IMAGE LOG
+abbrev pub Checks : Words → Task → Type 0
+Checks words (Check w) = (slice_get words.words.items 0 ≡ Some w.image) × (slice_get words.words.items 1 ≡ Some w.log)
+Checks words other = ⊥
+
+-- IMAGE LOG FROM..
+abbrev pub Mends : Words → Task → Type 0
+Mends words (Mend w) =
+    (slice_get words.words.items 0 ≡ Some w.image) × (slice_get words.words.items 1 ≡ Some w.log) × EndIn words.rows.items (w.others ∷ [])
+Mends words other = ⊥
+
 -- the task of these words is that of their name
 abbrev pub AsksFor : Words → Task → Type 0
 AsksFor words task =
     ((words.name.now ≡ codes "make") × Makes words task) ⊎ ((words.name.now ≡ codes "keeper") × Keeps words task) ⊎ ((words.name.now ≡ codes "hand") × Hands words task) ⊎
-    ((words.name.now ≡ codes "primary") × Leads words task) ⊎ ((words.name.now ≡ codes "client") × Asks words task)
+    ((words.name.now ≡ codes "primary") × Leads words task) ⊎ ((words.name.now ≡ codes "client") × Asks words task) ⊎
+    ((words.name.now ≡ codes "check") × Checks words task) ⊎ ((words.name.now ≡ codes "mend") × Mends words task)

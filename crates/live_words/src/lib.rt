@@ -5,6 +5,8 @@ mod forms;
 mod matching;
 mod tasks;
 
-pub use matching::read_task;
-pub use tasks::{ClientWords, HandWords, KeeperWords, MakeWords, PrimaryWords, Task};
+pub use matching::{asked_text, read_task};
+pub use tasks::{
+    CheckWords, ClientWords, HandWords, KeeperWords, MakeWords, MendWords, PrimaryWords, Task,
+};
 pub use word_forms::WordsFault;

@@ -3,16 +3,18 @@
 ghost use Rattle.std.specs.Prelude.{◌≡◌, ◌<◌, ◌++◌, ◌∷◌, [], IfOk};
 ghost use Rattle.ft_types.specs.Text.{IsNumber};
 ghost use Rattle.live_words.specs.Usable.{IsUsable};
-ghost use Rattle.live_words.specs.Words.{AsksFor, Asks, Hands, Keeps, Leads, Makes};
+ghost use Rattle.live_words.specs.Words.{AsksFor, Asks, Checks, Hands, Keeps, Leads, Makes, Mends};
 ghost use Rattle.wire.specs.Pairs.{IsLongWord};
 
 use crate::forms::FORMS;
-use crate::tasks::{ClientWords, HandWords, KeeperWords, MakeWords, PrimaryWords, Task};
+use crate::tasks::{
+    CheckWords, ClientWords, HandWords, KeeperWords, MakeWords, MendWords, PrimaryWords, Task,
+};
 use ft_types::{KEEPER_LIMIT, Keeper, Quorum, Term, read_number};
 use std::alloc::Global;
 use std::result::Result;
 use wire::{Pair, read_long_word};
-use word_forms::{Words, WordsFault, read_form};
+use word_forms::{Program, Words, WordsFault, read_form, read_text};
 
 /// The last of these rows, which is taken away.
 fn last_of<'a>(rows: &mut Vec<Vec<&'a str>>) -> Result<Vec<&'a str>, WordsFault>
@@ -220,6 +222,32 @@ fn asking_of<'a>(words: Words<'a>) -> Result<Task<'a>, WordsFault>
     }))
 }
 
+fn checking_of<'a>(words: Words<'a>) -> Result<Task<'a>, WordsFault>
+    ensures usable { IfOk result IsUsable }
+    ensures which { IfOk result (λ task. Checks words.entry task) }
+{
+    let [image, log] = *words.words.as_slice() else {
+        return Err(WordsFault::Usage);
+    };
+    Ok(Task::Check(CheckWords { image, log }))
+}
+
+fn mending_of<'a>(words: Words<'a>) -> Result<Task<'a>, WordsFault>
+    ensures usable { IfOk result IsUsable }
+    ensures which { IfOk result (λ task. Mends words.entry task) }
+{
+    let Words {
+        name: _,
+        words,
+        mut rows,
+    } = words;
+    let [image, log] = *words.as_slice() else {
+        return Err(WordsFault::Usage);
+    };
+    let others = last_of(&mut rows)?;
+    Ok(Task::Mend(MendWords { image, log, others }))
+}
+
 /// The task of these words.
 fn task_of<'a>(words: Words<'a>) -> Result<Task<'a>, WordsFault>
     ensures usable { IfOk result IsUsable }
@@ -231,6 +259,8 @@ fn task_of<'a>(words: Words<'a>) -> Result<Task<'a>, WordsFault>
         "hand" => handing_of(words),
         "primary" => leading_of(words),
         "client" => asking_of(words),
+        "check" => checking_of(words),
+        "mend" => mending_of(words),
         _ => Err(WordsFault::Usage),
     }
 }
@@ -241,4 +271,19 @@ pub fn read_task<'a>(alloc: Global, words: &'a [String]) -> Result<Task<'a>, Wor
     ensures { IfOk result IsUsable }
 {
     task_of(read_form(alloc, "live", &FORMS, words)?)
+}
+
+/// The text that the words ask for in place of a task, of a program of this version: None where they ask for none.
+pub fn asked_text(
+    alloc: Global,
+    version: &'static str,
+    words: &[String],
+) -> Result<Option<String>, WordsFault> {
+    let program = Program {
+        name: "live",
+        version,
+        about: "Keepers, primaries and clients of a guest, as processes over files and FIFOs",
+        forms: &FORMS,
+    };
+    read_text(alloc, &program, words)
 }

@@ -62,6 +62,22 @@ pub struct ClientWords<'a> {
     pub answers: Vec<&'a str>,
 }
 
+/// `check IMAGE LOG`: it is told what a log has.
+#[derive(Drop)]
+pub struct CheckWords<'a> {
+    pub image: &'a str,
+    pub log: &'a str,
+}
+
+/// `mend IMAGE LOG FROM..`: a log is mended from others.
+#[derive(Drop)]
+pub struct MendWords<'a> {
+    pub image: &'a str,
+    pub log: &'a str,
+    /// Other keepers' logs.
+    pub others: Vec<&'a str>,
+}
+
 /// What is to be done.
 #[derive(Drop)]
 pub enum Task<'a> {
@@ -70,4 +86,6 @@ pub enum Task<'a> {
     Hand(HandWords<'a>),
     Primary(PrimaryWords<'a>),
     Client(ClientWords<'a>),
+    Check(CheckWords<'a>),
+    Mend(MendWords<'a>),
 }

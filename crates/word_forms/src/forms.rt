@@ -7,6 +7,10 @@ use std::alloc::{AllocError, Global};
 pub struct Form {
     /// The command's name, the first word.
     pub name: &'static str,
+    /// How it is typed, behind the program's name.
+    pub usage: &'static str,
+    /// What it does.
+    pub about: &'static str,
     /// The names of the words behind it, one word each.
     pub words: &'static [&'static str],
     /// Whether one to eight paths stand behind the words.
@@ -18,13 +22,21 @@ pub struct Form {
 
 /// A command without its words.
 fn bare<'a>(alloc: Global, name: &'a str) -> Command<'a> {
-    Command::new(alloc, name)
-        .disable_help_flag(true)
-        .disable_help_subcommand(true)
+    Command::new(alloc, name).disable_help_subcommand(true)
+}
+
+/// A command of which its form tells. The words behind it stand in its usage.
+fn told<'a>(alloc: Global, form: &Form) -> Command<'a> {
+    bare(alloc, form.name)
+        .about(form.about)
+        .override_usage(form.usage)
 }
 
 fn word<'a>(alloc: Global, name: &'a str) -> Arg<'a> {
-    Arg::new(alloc, name).required(true).action(ArgAction::Set)
+    Arg::new(alloc, name)
+        .required(true)
+        .action(ArgAction::Set)
+        .hide(true)
 }
 
 fn one_to_eight(arg: Arg<'_>) -> Arg<'_> {
@@ -46,7 +58,9 @@ fn with_command<'a>(command: Command<'a>, behind: Command<'a>) -> Result<Command
 
 /// A command of paths, of which one is the next command's name only where it has a folder before it.
 fn over_paths<'a>(alloc: Global, name: &'a str) -> Result<Command<'a>, AllocError> {
-    let command = bare(alloc, name).subcommand_precedence_over_arg(true);
+    let command = bare(alloc, name)
+        .subcommand_precedence_over_arg(true)
+        .hide(true);
     with_arg(command, paths(alloc))
 }
 
@@ -67,7 +81,7 @@ fn with_behind<'a>(
 }
 
 fn command_of<'a>(alloc: Global, form: &Form) -> Result<Command<'a>, AllocError> {
-    let mut command = bare(alloc, form.name);
+    let mut command = told(alloc, form);
     for name in form.words {
         command = with_arg(command, word(alloc, name))?;
     }

@@ -18,7 +18,8 @@ pub struct Words<'a> {
     pub rows: Vec<Vec<&'a str>>,
 }
 
-fn fault_of(error: Error) -> WordsFault {
+/// Why clap found nothing.
+pub(crate) fn fault_of(error: Error) -> WordsFault {
     match error.kind() {
         ErrorKind::OutOfMemory => WordsFault::Memory,
         _ => WordsFault::Usage,

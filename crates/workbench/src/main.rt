@@ -1,14 +1,15 @@
-//! The program: it runs, replays, joins, cuts and audits logs of a guest, and leads a pair and a failover, over real files and threads.
+//! The program: it runs, replays, joins, cuts and audits logs of a guest, answers a debugger that looks at them, and leads a pair and a failover, over real files and threads.
 #![tactic(auto)]
 
 mod host;
 
 use crate::host::{HostFiles, HostWriter};
-use command_line::{Pairs, WordsFault, command, no_output, no_request};
+use command_line::{Pairs, WordsFault, answer, no_output, no_request};
 use pair::OnThreads;
 use std::io::BufWriter;
 use std::process::ExitCode;
 use std::{env, io};
+use version::VERSION;
 
 /// The arguments, but the program's name.
 fn arguments(rt: &HostRuntime) -> io::Result<Vec<String>> {
@@ -31,7 +32,7 @@ fn fault_of(error: &io::Error) -> WordsFault {
 fn status<P: Pairs>(rt: &HostRuntime, pairs: &P) -> u8
     requires { P.may_run pairs.now }
 {
-    let mut files = HostFiles::new(rt);
+    let mut files = HostFiles::new(rt, rt.stdin(), rt.stdout());
     let mut err = HostWriter::new(rt.stderr());
     let words = match arguments(rt) {
         Ok(words) => words,
@@ -42,7 +43,15 @@ fn status<P: Pairs>(rt: &HostRuntime, pairs: &P) -> u8
         return no_request(WordsFault::Memory, &mut err);
     };
     let mut out = HostWriter::new(stdout);
-    let status = command(rt.alloc(), &words, &mut files, pairs, &mut out, &mut err);
+    let status = answer(
+        rt.alloc(),
+        VERSION,
+        &words,
+        &mut files,
+        pairs,
+        &mut out,
+        &mut err,
+    );
     if status == 0 && !out.flush() {
         return no_output(&mut err);
     }
