@@ -27,8 +27,6 @@ mod names;
 #[cfg(test)]
 mod notes;
 #[cfg(test)]
-mod packets;
-#[cfg(test)]
 mod queues;
 #[cfg(test)]
 mod races;
