@@ -1,11 +1,12 @@
 -- Frames and events that are taken, one behind the other.
-use Rattle.std.proofs.Common.{◌≡◌, ◌≢◌, ◌||◌, ℕ, Bool, true, false, List, [], ◌∷◌, ◌++◌, refl, sym, ap, subst, ◌∙◌, append_assoc, append-nil}
+use Rattle.std.proofs.Common.{◌≡◌, ◌⊎◌, inl, inr, ◌≢◌, ◌||◌, ℕ, Bool, true, false, List, [], ◌∷◌, ◌++◌, refl, sym, ap, subst, ◌∙◌, append_assoc, append-nil}
 use Rattle.std.specs.List.{AllByRecursion}
 use Rattle.fragment_codec.specs.declared.frame.Frame.{Frame}
 use Rattle.fragment_codec.specs.Streams.{spelling}
 use Rattle.log_join.specs.Answers.{answer_to}
 use Rattle.log_join.specs.Stores.{StoreView, IsJoin, alone}
-use Rattle.log_join.specs.declared.answers.Put.TheVariants.{New}
+use Rattle.log_join.specs.declared.answers.Put.{Put}
+use Rattle.log_join.specs.declared.answers.Put.TheVariants.{New, Same, OtherGuest, Clash}
 use Rattle.stations.specs.Stations.{StationView}
 use Rattle.live_keeper.specs.Turns.{KeepingView, TakesFrames, TookAll, TookNew, TookOther, with_new, TakesEvent, TakesEvents, NoEvent, OneEvent, is_logged, are_logged, passed_of, passes, IsPass}
 use Rattle.live_keeper.specs.declared.events.Event.{Event}
@@ -30,10 +31,30 @@ with_is s t frame fresh seen keeper =
     ∙ ap (λ (number : ℕ). let v : StationView = record { keeper = number; store = t.store; fresh = t.fresh; seen = t.seen } in v) (sym keeper)
 
 -- what `take` says of a frame that is new
-pub took_new : (s t : StationView) (frame : Frame) → answer_to s.store frame ≡ New → IsJoin s.store (alone frame) t.store →
+took_new : (s t : StationView) (frame : Frame) → answer_to s.store frame ≡ New → IsJoin s.store (alone frame) t.store →
     t.fresh ≡ s.fresh ++ spelling frame → t.seen ≡ s.seen → t.keeper ≡ s.keeper → TakesFrames s (frame ∷ []) t
 took_new s t frame is join fresh seen keeper = TookNew s t frame [] t.store is join
     (subst (λ (v : StationView). TakesFrames v [] t) (sym (with_is s t frame fresh seen keeper)) (TookAll t))
+
+took_other : (s t : StationView) (frame : Frame) (put : Put) → put ≡ answer_to s.store frame → (put ≡ New → ⊥) → (put ≡ Clash → ⊥) → t ≡ s →
+    TakesFrames s (frame ∷ []) t
+took_other s t frame put is other clean same = subst (λ (v : StationView). TakesFrames s (frame ∷ []) v) (sym same)
+    (TookOther s s frame [] (λ e. other (is ∙ e)) (λ e. clean (is ∙ e)) (TookAll s))
+
+is_other : (put one other : Put) → put ≡ one → (one ≡ other → ⊥) → put ≡ other → ⊥
+is_other put one other is differs e = differs (sym is ∙ e)
+
+-- what `take` says of a frame that does not clash
+pub took : (s t : StationView) (frame : Frame) (put : Put) → put ≡ answer_to s.store frame → (put ≡ New) ⊎ ((put ≡ Same) ⊎ (put ≡ OtherGuest)) →
+    (put ≡ New → IsJoin s.store (alone frame) t.store) → (put ≡ New → t.fresh ≡ s.fresh ++ spelling frame) → ((put ≡ New → ⊥) → t ≡ s) →
+    t.seen ≡ s.seen → t.keeper ≡ s.keeper → TakesFrames s (frame ∷ []) t
+took s t frame put is (inl new) join fresh stays seen keeper = took_new s t frame (sym is ∙ new) (join new) (fresh new) seen keeper
+took s t frame put is (inr (inl same)) join fresh stays seen keeper =
+    let other : put ≡ New → ⊥ = is_other put Same New same (λ e. absurd cc) in
+    took_other s t frame put is other (is_other put Same Clash same (λ e. absurd cc)) (stays other)
+took s t frame put is (inr (inr foreign)) join fresh stays seen keeper =
+    let other : put ≡ New → ⊥ = is_other put OtherGuest New foreign (λ e. absurd cc) in
+    took_other s t frame put is other (is_other put OtherGuest Clash foreign (λ e. absurd cc)) (stays other)
 
 -- ---- events
 
