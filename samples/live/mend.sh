@@ -136,7 +136,7 @@ kept() {
     is "$1: it stays" "$was" "$(cat mine mine.fences | sha256sum)"
 }
 make 0 mine front
-printf '\001' | dd of=mine bs=1 seek=$((half / 2)) conv=notrunc 2> /dev/null
+printf '\001' | dd of=mine bs=1 seek=20 conv=notrunc 2> /dev/null
 says 'a frame that turned' 1 'fault log frame 5' check "$image" mine
 kept 'whole frames stand behind it' 'fault log behind' whole
 cat front zeros > mine
@@ -148,8 +148,8 @@ kept 'a log without fences' 'fault file bare.fences' bare
 kept 'a log of another guest' 'fault from 0 line' theirs
 cp whole.fences gone.fences
 kept 'no log' 'fault file gone' gone
-awk '{ print }' "$top/samples/four_harts.script" > script
-echo '0 1 word 77' >> script
+cat "$top/samples/four_harts.script" > script
+echo '0 1 word 00000077' >> script
 "$workbench" run "$image" script 20000 unlike > machine
 make 2 clash unlike
 kept 'frames that clash' 'fault from 0 clash' clash
