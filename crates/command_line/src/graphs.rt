@@ -1,8 +1,5 @@
 //! Pictures of logs.
 
-ghost use Rattle.std.specs.Prelude.{IfOk};
-ghost use Rattle.guest_image.specs.Image.{guest_of};
-
 use crate::faults::{CommandFault, written};
 use closed_cut::position;
 use ft_types::{Guest, Sink, Source, write_all};
@@ -43,9 +40,7 @@ fn read_each<R: Source>(
 }
 
 /// The join of these stores.
-fn joined(alloc: Global, guest: Guest, stores: &[Store]) -> Result<Store, CommandFault>
-    ensures { IfOk result (λ store. store.guest ≡ guest.now) }
-{
+fn joined(alloc: Global, guest: Guest, stores: &[Store]) -> Result<Store, CommandFault> {
     let mut all = Store::new(alloc, guest);
     for store in stores {
         match all.join(alloc, store) {
