@@ -87,13 +87,17 @@ fn is_want(fault: EventFault) -> bool {
 
 /// What comes of a grant that is answered so.
 fn outcome_of(answer: Result<(), EventFault>) -> Result<Outcome, Memory> {
-    match answer {
-        Ok(()) => Ok(Outcome::Done),
-        Err(fault) if is_want(fault) => Err(Memory),
-        Err(EventFault::Lead(LeadFault::NotLive(GivenFault::Live(LiveFault::TooFewStores)))) => {
+    let Err(fault) = answer else {
+        return Ok(Outcome::Done);
+    };
+    if is_want(fault) {
+        return Err(Memory);
+    }
+    match fault {
+        EventFault::Lead(LeadFault::NotLive(GivenFault::Live(LiveFault::TooFewStores))) => {
             Ok(Outcome::TooFewStores)
         }
-        Err(_) => Ok(Outcome::Refused),
+        _ => Ok(Outcome::Refused),
     }
 }
 
