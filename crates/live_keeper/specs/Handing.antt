@@ -21,3 +21,10 @@ pub record IsHandedOut (guest : GuestParts) (pair : Pair) (keeper term : ℕ) (b
   pub handed : List ℕ
   pub handed_to : IsHandedTo guest keeper term frames handed
   pub parts : bytes ≡ line (pair_text guest pair) ++ handed
+
+-- the bytes are the line of the pair, and then frames of the keeper's log, handed over to the term
+pub record HandsOver (guest : GuestParts) (pair : Pair) (keeper term : ℕ) (bytes : List ℕ) : Type 0 where
+  pub frames : List ℕ
+  pub handed : List ℕ
+  pub handed_to : IsHandedTo guest keeper term frames handed
+  pub parts : bytes ≡ line (pair_text guest pair) ++ handed

@@ -3,7 +3,7 @@
 ghost use Rattle.std.specs.Prelude.{◌≡◌, ◌++◌, IfOk};
 ghost use Rattle.ft_types.specs.Text.{line};
 ghost use Rattle.wire.specs.Pairs.{pair_text};
-ghost use Rattle.live_keeper.specs.Handing.{IsHandedOut};
+ghost use Rattle.live_keeper.specs.Handing.{HandsOver, IsHandedOut};
 
 use crate::faults::{fence_fault, log_fault};
 use ends::Fault;
@@ -40,7 +40,8 @@ pub(crate) fn hand_out<F: KeeperFiles + Drop>(
     term: Term,
     files: F,
 ) -> Result<HandedOut<F>, Fault>
-    ensures { IfOk result (λ h. IsHandedOut guest.now pair.now keeper term (F.acts files) (F.acts h.files) h.bytes.items) }
+    ensures out { IfOk result (λ h. IsHandedOut guest.now pair.now keeper term (F.acts files) (F.acts h.files) h.bytes.items) }
+    ensures hands { IfOk result (λ h. HandsOver guest.now pair.now keeper term h.bytes.items) }
 {
     let fenced = match fence_off(alloc, files, term) {
         Ok(fenced) => fenced,

@@ -1,10 +1,9 @@
 //! `hand IMAGE K LOG T`: the keeper of this number and log acknowledges nothing below the term any more, and then its frames are written out, behind
 //! a line of its pair.
 
-ghost use Rattle.std.specs.Prelude.{◌≡◌, ◌≤◌, List, IfOk};
+ghost use Rattle.std.specs.Prelude.{◌≡◌, ◌≤◌, IfOk};
 ghost use Rattle.wire.specs.declared.pairs.Pair.{Pair as pair_of_wire};
-ghost use Rattle.stations.specs.Acts.{Act};
-ghost use Rattle.live_keeper.specs.Handing.{IsHandedOut};
+ghost use Rattle.live_keeper.specs.Handing.{HandsOver};
 
 use crate::faults::open_fault;
 use crate::files::{HostDisk, HostFiles, Places};
@@ -30,7 +29,7 @@ fn open<H: Host>(rt: &H, guest: Guest, words: &HandWords<'_>) -> Result<HostFile
 
 /// What is written of the log of these words.
 fn bytes_of<H: Host>(rt: &H, guest: &Guest, words: &HandWords<'_>) -> Result<Vec<u8>, Fault>
-    ensures { IfOk result (λ bytes. (pair : pair_of_wire) × (before : List Act → Type 0) × (behind : List Act → Type 0) × IsHandedOut guest.now pair words.now.keeper words.now.term before behind bytes.items) }
+    ensures { IfOk result (λ bytes. (pair : pair_of_wire) × HandsOver guest.now pair words.now.keeper words.now.term bytes.items) }
 {
     let files = open(rt, *guest, words)?;
     let pair = files.known.pair;

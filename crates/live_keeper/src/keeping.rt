@@ -1,6 +1,6 @@
 //! `keeper IMAGE K LOG from FRAMES.. to ACKS..`: frames come in, new ones go to the log, and then the position is acknowledged.
 
-ghost use Rattle.std.specs.Prelude.{◌≡◌, ◌≤◌, IfOk};
+ghost use Rattle.std.specs.Prelude.{◌≡◌, ◌≤◌, true, false, IfOk};
 
 use crate::desk::Desk;
 use crate::events::{Event, KeeperDeed};
