@@ -8,13 +8,11 @@ use fenced_live::GivenFault;
 use ft_types::{HART_LIMIT, Hart, KEEPER_LIMIT, Keeper, Memory, Quorum, Term};
 use go_live::LiveFault;
 use guest_image::{Image, Machine};
-use hart_replay::ReplayFault;
-use leading::{HandedFault, LeadFault, Leader, Spacing};
+use leading::{LeadFault, Leader, Spacing};
 use live_world::{
     ClientEvent, EventFault, HandAct, KeeperEvent, LiveEvent, LiveWorld, PrimaryEvent,
 };
 use output_gate::Output;
-use stations::{FilesFault, LogFault};
 use std::alloc::Global;
 use wire::{Answer, Request};
 
@@ -71,33 +69,15 @@ fn is_contradicted(one: &Answer, told: &[Answer]) -> bool {
     false
 }
 
-/// Whether memory was refused to what has the fault.
-fn is_want(fault: EventFault) -> bool {
-    match fault {
-        EventFault::Memory
-        | EventFault::Files(FilesFault::Memory)
-        | EventFault::Log(LogFault::Files(FilesFault::Memory))
-        | EventFault::Handed(HandedFault::Memory) => true,
-        EventFault::Lead(LeadFault::NotLive(GivenFault::Live(fault))) => {
-            fault == LiveFault::Memory || fault == LiveFault::Replay(ReplayFault::Memory)
-        }
-        _ => false,
-    }
-}
-
 /// What comes of a grant that is answered so.
 fn outcome_of(answer: Result<(), EventFault>) -> Result<Outcome, Memory> {
-    let Err(fault) = answer else {
-        return Ok(Outcome::Done);
-    };
-    if is_want(fault) {
-        return Err(Memory);
-    }
-    match fault {
-        EventFault::Lead(LeadFault::NotLive(GivenFault::Live(LiveFault::TooFewStores))) => {
+    match answer {
+        Ok(()) => Ok(Outcome::Done),
+        Err(EventFault::Memory) => Err(Memory),
+        Err(EventFault::Lead(LeadFault::NotLive(GivenFault::Live(LiveFault::TooFewStores)))) => {
             Ok(Outcome::TooFewStores)
         }
-        _ => Ok(Outcome::Refused),
+        Err(_) => Ok(Outcome::Refused),
     }
 }
 
@@ -125,7 +105,7 @@ impl Live {
     pub fn happens(&mut self, alloc: Global, event: LiveEvent) -> Result<bool, Memory> {
         match self.world.apply(alloc, event) {
             Ok(()) => Ok(true),
-            Err(fault) if is_want(fault) => Err(Memory),
+            Err(EventFault::Memory) => Err(Memory),
             Err(_) => Ok(false),
         }
     }

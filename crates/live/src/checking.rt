@@ -38,7 +38,7 @@ struct Names {
     mark: String,
 }
 
-fn names<H: Host>(rt: &H, log: &str) -> Result<Names, Fault> {
+fn names_of<H: Host>(rt: &H, log: &str) -> Result<Names, Fault> {
     let log = real_name(rt, log)?;
     let fences = beside(rt.alloc(), log.as_str(), ".fences")?;
     let mark = beside(rt.alloc(), log.as_str(), ".failed")?;
@@ -82,7 +82,7 @@ fn frames_fault(checked: &Checked) -> Option<Fault> {
 }
 
 fn find<H: Host>(rt: &H, guest: Guest, log: &str) -> Result<Found, Fault> {
-    let names = names(rt, log)?;
+    let names = names_of(rt, log)?;
     let fences = read(rt, names.fences.as_str(), NamedFile::Fences)?;
     let bytes = read(rt, names.log.as_str(), NamedFile::Log)?;
     let keeps = match first_line(&fences) {
