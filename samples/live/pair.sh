@@ -13,7 +13,7 @@ case $guest in
     lua | sqlite) image=$top/guests/out/-O2/$guest.image ;;
 esac
 image=${IMAGE:-$image}
-logs=$(realpath "${LOGS:-.}")
+logs=$(cd "${LOGS:-.}" && pwd)
 at=$(mktemp -d)
 # Ends what this script started, and nothing else.
 finish() {
