@@ -1,0 +1,88 @@
+//! Registers of a hart, by gdb's numbers.
+
+ghost use Rattle.std.specs.Prelude.{◌≡◌, ◌++◌, IfOk, OnOk, option_map};
+ghost use Rattle.rv32_hart.specs.Csrs.{read_csr};
+ghost use Rattle.debugging.specs.Shown.{word_digits, registers_text, register_at};
+
+use ft_types::Memory;
+use rv32_hart::HartState;
+use std::alloc::Global;
+
+/// The number of pc.
+pub(crate) const PC_NUMBER: u32 = 32;
+
+/// The number of the CSR at address 0; the others stand behind it.
+pub(crate) const CSR_NUMBER: u32 = 65;
+
+/// The CSR at an address.
+#[tactic(auto, unfolding(rv32_hart::specs::Csrs::read_csr))]
+fn csr_word(hart: &HartState, address: u32) -> Option<u32>
+    ensures { result ≡ read_csr hart.now address }
+{
+    let [mstatus, mie, mip, mtvec, mscratch, mepc, mcause] = hart.csr_words();
+    match address {
+        0x300 => Some(mstatus),
+        0x304 => Some(mie),
+        0x305 => Some(mtvec),
+        0x340 => Some(mscratch),
+        0x341 => Some(mepc),
+        0x342 => Some(mcause),
+        0x343 => Some(0),
+        0x344 => Some(mip),
+        0xf14 => Some(u32::from(hart.number().number())),
+        _ => None,
+    }
+}
+
+/// The register with this number.
+pub(crate) fn register_word(hart: &HartState, number: u32) -> Option<u32>
+    ensures { result ≡ register_at hart.now number }
+{
+    match number {
+        0 => Some(0),
+        1..=31 => Some(hart.registers()[number as usize - 1]),
+        PC_NUMBER => Some(hart.pc()),
+        CSR_NUMBER.. => csr_word(hart, number - CSR_NUMBER),
+        _ => None,
+    }
+}
+
+/// Puts a word: two digits for each byte, the lowest byte first.
+pub(crate) fn put_word(text: &mut Vec<u8>, word: u32) -> Result<(), Memory>
+    ensures { OnOk result (text.new.items ≡ text.old.items ++ word_digits word) }
+{
+    let mut digits = [0; 8];
+    let _fits = hex::encode_to_slice(word.to_le_bytes(), &mut digits);
+    text.extend_from_slice(&digits)?;
+    Ok(())
+}
+
+/// x0 to x31 and pc.
+pub(crate) fn registers_text(alloc: Global, hart: &HartState) -> Result<Vec<u8>, Memory>
+    ensures { IfOk result (λ text. text.items ≡ registers_text hart.now) }
+{
+    let mut text = Vec::new(alloc);
+    put_word(&mut text, 0)?;
+    let words = hart.registers();
+    for word in words {
+        put_word(&mut text, *word)?;
+    }
+    put_word(&mut text, hart.pc())?;
+    Ok(text)
+}
+
+/// The register with this number, where there is one.
+pub(crate) fn register_text(
+    alloc: Global,
+    hart: &HartState,
+    number: u32,
+) -> Result<Option<Vec<u8>>, Memory>
+    ensures { IfOk result (λ text. option_map (λ t. t.items) text ≡ option_map word_digits (register_at hart.now number)) }
+{
+    let Some(word) = register_word(hart, number) else {
+        return Ok(None);
+    };
+    let mut text = Vec::new(alloc);
+    put_word(&mut text, word)?;
+    Ok(Some(text))
+}

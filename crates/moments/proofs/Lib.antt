@@ -1,0 +1,12 @@
+pub mod Sums
+pub mod Moves
+pub mod Standings
+pub mod Parts
+pub mod Choosing
+pub mod Stepping
+pub mod Turns
+pub mod Passing
+pub mod Keeping
+pub mod Cutting
+pub mod Histories
+pub mod Hits

@@ -1,0 +1,12 @@
+//! What holds of each line.
+
+ghost use Rattle.moments.specs.Laws.{OneMachine, CountsAreCuts, EndsAreOutcomes, EndsTellHistories};
+
+/// At each moment of a line there is one machine, whose counts are a closed cut of its leg. At the end it is an outcome of the plan,
+/// and of honest frames the history's machine at the position.
+pub fn honest_moments()
+    ensures one { OneMachine }
+    ensures cuts { CountsAreCuts }
+    ensures outcomes { EndsAreOutcomes }
+    ensures tell { EndsTellHistories }
+{}

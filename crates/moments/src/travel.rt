@@ -1,0 +1,130 @@
+//! Moments that are gone to.
+
+ghost use Rattle.std.specs.Prelude.{◌≡◌, ◌<◌, ◌≤◌, ◌+◌, ℕ, IfOk, OnOk, IfSome, IfNone, Some, true, false, length, slice_get};
+ghost use Rattle.guest_image.specs.Machine.{MachineState};
+ghost use Rattle.hart_lease.specs.Runs.{counts_of};
+ghost use Rattle.moments.specs.Line.{IsAt, steps_of, ends_of};
+ghost use Rattle.moments.specs.Points.{BreaksAt, WatchesAt, HoldsAt, HitsAt, IsOne, NoneFrom};
+ghost use Rattle.moments.specs.Stops.{HasStopped, HasStoppedBack, LastHit};
+
+use crate::points::{Point, Stop, first_break, first_watch};
+use crate::timeline::Timeline;
+use ft_types::{Count, Hart};
+use hart_replay::ReplayFault;
+use std::option::Option;
+use std::result::Result;
+
+impl Timeline {
+    /// Goes to a moment.
+    pub fn go_to(&mut self, moment: u64) -> Result<(), ReplayFault>
+        requires { moment ≤ steps_of self.old.legs }
+        ensures line { self.new ≡ record self.old { now = self.new.now } }
+        ensures there { OnOk result (self.new.now.moment ≡ moment) }
+    {
+        self.near(moment)?;
+        while self.now() < moment {
+            self.forward()?;
+        }
+        Ok(())
+    }
+
+    /// Goes to the first moment at which the hart has so many steps. False, and nothing is changed, where the line has none.
+    pub fn go_to_count(&mut self, hart: Hart, count: Count) -> Result<bool, ReplayFault>
+        ensures line { self.new ≡ record self.old { now = self.new.now } }
+        ensures there { IfOk result (λ went. went ≡ true → counts_of self.new.now.machine hart ≡ count) }
+        ensures first { IfOk result (λ went. went ≡ true → (moment : ℕ) (m : MachineState) → moment < self.new.now.moment →
+            IsAt self.new.legs self.new.start moment m → counts_of m hart < count) }
+        ensures none { IfOk result (λ went. went ≡ false → (self.new ≡ self.old) × ((moment : ℕ) (m : MachineState) →
+            IsAt self.old.legs self.old.start moment m → counts_of m hart < count)) }
+    {
+        if hart.number() >= self.harts() || self.end_of(hart) < count {
+            return Ok(false);
+        }
+        self.near_count(hart, count)?;
+        while self.hart(hart).count() < count {
+            self.forward()?;
+        }
+        Ok(true)
+    }
+
+    /// The first point that is where the step that comes next is.
+    fn broken(&self, points: &[Point]) -> Option<usize>
+        ensures some { IfSome result (IsOne BreaksAt points.now self.now self.now.now.moment) }
+        ensures none { IfNone result (NoneFrom BreaksAt points.now self.now self.now.now.moment (self.now.now.moment + 1)) }
+    {
+        first_break(points, self.hart(self.next()?).pc())
+    }
+
+    /// The first point that watches what the step that comes next uses.
+    fn watched(&self, points: &[Point]) -> Option<usize>
+        ensures some { IfSome result (IsOne WatchesAt points.now self.now self.now.now.moment) }
+        ensures none { IfNone result (NoneFrom WatchesAt points.now self.now self.now.now.moment (self.now.now.moment + 1)) }
+    {
+        first_watch(points, self.access())
+    }
+
+    /// Goes on to the first moment at which a point holds, or to the end.
+    pub fn until(&mut self, points: &[Point]) -> Result<Stop, ReplayFault>
+        ensures line { self.new ≡ record self.old { now = self.new.now } }
+        ensures stopped { IfOk result (HasStopped points.now self.old self.new) }
+    {
+        loop {
+            let watched = self.watched(points);
+            if !self.forward()? {
+                return Ok(Stop::End);
+            }
+            if let Some(number) = watched {
+                return Ok(Stop::At(number));
+            }
+            if let Some(number) = self.broken(points) {
+                return Ok(Stop::At(number));
+            }
+        }
+    }
+
+    /// The first point at which the step that comes next is, or that watches it.
+    fn hit(&self, points: &[Point]) -> Option<usize>
+        ensures some { IfSome result (IsOne HitsAt points.now self.now self.now.now.moment) }
+        ensures none { IfNone result (NoneFrom HitsAt points.now self.now self.now.now.moment (self.now.now.moment + 1)) }
+    {
+        match self.broken(points) {
+            Some(number) => Some(number),
+            None => self.watched(points),
+        }
+    }
+
+    /// Goes on to a moment. Of the moments on the way the last one whose step hits a point, and which point.
+    fn last_hit(&mut self, points: &[Point], end: u64) -> Result<Option<(u64, usize)>, ReplayFault>
+        requires { end ≤ steps_of self.old.legs }
+        ensures line { self.new ≡ record self.old { now = self.new.now } }
+        ensures last { IfOk result (LastHit points.now self.old end) }
+    {
+        let mut last = None;
+        while self.now() < end {
+            if let Some(number) = self.hit(points) {
+                last = Some((self.now(), number));
+            }
+            self.forward()?;
+        }
+        Ok(last)
+    }
+
+    /// Goes back to the last moment whose step is at a breakpoint or is watched, or to the beginning.
+    pub fn back_until(&mut self, points: &[Point]) -> Result<Stop, ReplayFault>
+        ensures line { self.new ≡ record self.old { now = self.new.now } }
+        ensures stopped { IfOk result (HasStoppedBack points.now self.old self.new) }
+    {
+        let mut end = self.now();
+        while end > 0 {
+            self.near(end - 1)?;
+            let begin = self.now();
+            if let Some((moment, number)) = self.last_hit(points, end)? {
+                self.go_to(moment)?;
+                return Ok(Stop::At(number));
+            }
+            end = begin;
+        }
+        self.go_to(0)?;
+        Ok(Stop::Begin)
+    }
+}
