@@ -12,7 +12,7 @@ pub(crate) const SHOWN_LIMIT: u32 = 2048;
 
 /// The bytes of RAM from the first on, up to so many, to the end of RAM, or to what one packet shows.
 fn bytes_of(alloc: Global, line: &Timeline, range: Bytes) -> Result<Vec<u8>, Memory>
-    ensures { IfOk result (λ bytes. ShowsBytes line.now.now.machine.pages range.first range.length bytes.items) }
+    ensures { IfOk result (λ bytes. ShowsBytes line.now.stands.machine.pages range.first range.length bytes.items) }
 {
     let mut bytes = Vec::new(alloc);
     for number in 0..range.length.min(SHOWN_LIMIT) {
@@ -29,7 +29,7 @@ fn bytes_of(alloc: Global, line: &Timeline, range: Bytes) -> Result<Vec<u8>, Mem
 
 /// The text of these bytes, or that there are none.
 pub(crate) fn memory_text(alloc: Global, line: &Timeline, range: Bytes) -> Result<Vec<u8>, Memory>
-    ensures { IfOk result (λ text. (bytes : List ℕ) × ShowsBytes line.now.now.machine.pages range.first range.length bytes ×
+    ensures { IfOk result (λ text. (bytes : List ℕ) × ShowsBytes line.now.stands.machine.pages range.first range.length bytes ×
         (text.items ≡ memory_answer range.length bytes)) }
 {
     let bytes = bytes_of(alloc, line, range)?;

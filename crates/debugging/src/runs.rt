@@ -20,7 +20,7 @@ pub(crate) struct Arrival {
 
 /// How many steps a hart has taken.
 pub(crate) fn count_of(line: &Timeline, hart: Hart) -> Count
-    ensures value { result ≡ counts_of line.now.now.machine hart }
+    ensures value { result ≡ counts_of line.now.stands.machine hart }
     ensures limit { result < COUNT_LIMIT }
 {
     line.counts().count_of(hart)
@@ -28,8 +28,8 @@ pub(crate) fn count_of(line: &Timeline, hart: Hart) -> Count
 
 /// A hart, where the machine has it.
 pub(crate) fn hart_at(line: &Timeline, hart: Hart) -> Option<&HartState>
-    ensures some { IfSome result (λ h. slice_get line.now.now.machine.harts hart ≡ Some h.now) }
-    ensures none { IfNone result (length line.now.now.machine.harts ≤ hart) }
+    ensures some { IfSome result (λ h. slice_get line.now.stands.machine.harts hart ≡ Some h.now) }
+    ensures none { IfNone result (length line.now.stands.machine.harts ≤ hart) }
 {
     if hart.number() < line.harts() {
         Some(line.hart(hart))
@@ -47,7 +47,7 @@ fn next_hart(line: &Timeline, otherwise: Hart) -> Hart {
 #[tactic(auto, using(crate::proofs::Lines::led_on))]
 pub(crate) fn step(line: &mut Timeline, hart: Hart) -> Result<bool, ReplayFault>
     ensures line { IsOfLine line.old line.new }
-    ensures led { IfOk result (λ led. led ≡ true → IsFirstWith line.new hart (counts_of line.old.now.machine hart + 1)) }
+    ensures led { IfOk result (λ led. led ≡ true → IsFirstWith line.new hart (counts_of line.old.stands.machine hart + 1)) }
     ensures end { IfOk result (λ led. led ≡ false → line.new ≡ line.old) }
 {
     let count = count_of(line, hart);
@@ -58,7 +58,7 @@ pub(crate) fn step(line: &mut Timeline, hart: Hart) -> Result<bool, ReplayFault>
 #[tactic(auto, using(crate::proofs::Lines::led_on))]
 pub(crate) fn step_back(line: &mut Timeline, hart: Hart) -> Result<bool, ReplayFault>
     ensures line { IsOfLine line.old line.new }
-    ensures led { IfOk result (λ led. led ≡ true → IsBeforeStep line.new hart (counts_of line.old.now.machine hart)) }
+    ensures led { IfOk result (λ led. led ≡ true → IsBeforeStep line.new hart (counts_of line.old.stands.machine hart)) }
 {
     let count = count_of(line, hart);
     if count == 0 || !line.go_to_count(hart, count)? {

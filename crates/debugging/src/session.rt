@@ -153,7 +153,7 @@ impl Session {
         ensures register { (h : HartRecord) (n : ℕ) → show ≡ ShowOf.Register n → IsShown self.now h →
             IfOk result (λ text. text.items ≡ or_wrong (option_map word_digits (register_at h n))) }
         ensures memory { (range : Bytes) → show ≡ ShowOf.Memory range → IfOk result (λ text. (bytes : List ℕ) ×
-            ShowsBytes self.now.line.now.machine.pages range.first range.length bytes × (text.items ≡ memory_answer range.length bytes)) }
+            ShowsBytes self.now.line.stands.machine.pages range.first range.length bytes × (text.items ≡ memory_answer range.length bytes)) }
     {
         match show {
             Show::Memory(range) => memory_text(alloc, &self.line, range),
@@ -214,7 +214,7 @@ impl Session {
             IfOk result (Says (or_wrong (option_map word_digits (register_at h n)))) × (self.new ≡ self.old) }
 
         ensures memory { (address many : ℕ) → AsksForMemory packet.now address many → IfOk result (λ a. (bytes : List ℕ) ×
-            ShowsBytes self.old.line.now.machine.pages address many bytes × Says (memory_answer many bytes) a) × (self.new ≡ self.old) }
+            ShowsBytes self.old.line.stands.machine.pages address many bytes × Says (memory_answer many bytes) a) × (self.new ≡ self.old) }
 
         // The past is not changed.
         ensures another { AsksForAnother packet.now → IfOk result (Says (codes "E01")) × (self.new ≡ self.old) }
