@@ -161,37 +161,53 @@ impl Session {
         }
     }
 
-    /// What a packet is answered that is about points or threads.
-    fn note(&mut self, alloc: Global, command: &Command<'_>) -> Result<Vec<u8>, Memory>
+    /// Does what a packet wants that is about points or threads. Whether it is right.
+    fn note(&mut self, command: &Command<'_>) -> Result<bool, Memory>
         ensures line { self.new.line ≡ self.old.line }
     {
-        let harts = self.line.harts();
-        let is_right = match command {
-            Command::Choose(what) => self.choose(what),
-            Command::IsThere(number) => read_thread(number, harts).is_some(),
-            Command::Insert(point) => put_point(&mut self.points, *point)?,
+        match command {
+            Command::Choose(what) => Ok(self.choose(what)),
+            Command::IsThere(number) => Ok(read_thread(number, self.line.harts()).is_some()),
+            Command::Insert(point) => put_point(&mut self.points, *point),
             Command::Remove(point) => {
                 drop_point(&mut self.points, *point);
-                true
+                Ok(true)
             }
-            _ => false,
-        };
+            _ => Ok(false),
+        }
+    }
+
+    /// What such a packet is answered.
+    fn answer_note(&mut self, alloc: Global, command: &Command<'_>) -> Result<Vec<u8>, Memory>
+        ensures line { self.new.line ≡ self.old.line }
+    {
+        let is_right = self.note(command)?;
         told(alloc, is_right)
     }
 
+    /// What is said to the command.
+    #[tactic(auto, using(crate::proofs::Lines::led_on, crate::proofs::Lines::stays, crate::proofs::Lines::goes_on))]
+    fn say(&mut self, alloc: Global, command: &Command<'_>) -> Result<Vec<u8>, ReplayFault>
+        ensures line { IsOfLine self.old.line self.new.line }
+    {
+        match command {
+            Command::Go(way, thread) => self.go(alloc, *way, thread),
+            Command::Query(packet) => self.ask(alloc, packet),
+            Command::Unknown => Ok(Vec::new(alloc)),
+            _ => Ok(self.answer_note(alloc, command)?),
+        }
+    }
+
     /// What the command is answered.
+    #[tactic(auto, using(crate::proofs::Lines::led_on, crate::proofs::Lines::stays, crate::proofs::Lines::goes_on))]
     fn obey(&mut self, alloc: Global, command: &Command<'_>) -> Result<Answer, ReplayFault>
         ensures line { IsOfLine self.old.line self.new.line }
     {
-        let text = match command {
-            Command::Kill => return Ok(Answer::Over),
-            Command::Detach => return Ok(Answer::SaysLast(told(alloc, true)?)),
-            Command::Go(way, thread) => self.go(alloc, *way, thread)?,
-            Command::Query(packet) => self.ask(alloc, packet)?,
-            Command::Unknown => Vec::new(alloc),
-            _ => self.note(alloc, command)?,
-        };
-        Ok(Answer::Says(text))
+        match command {
+            Command::Kill => Ok(Answer::Over),
+            Command::Detach => Ok(Answer::SaysLast(told(alloc, true)?)),
+            _ => Ok(Answer::Says(self.say(alloc, command)?)),
+        }
     }
 
     /// What the command is answered, or that the log leads nowhere.
