@@ -15,7 +15,7 @@ pub record SessionView : Type 0 where
 
 -- the machine has this hart, and more is asked of it
 abbrev pub IsShown : SessionView → Hart → Type 0
-IsShown s h = slice_get s.line.now.machine.harts s.shown ≡ Some h
+IsShown s h = slice_get s.line.stands.machine.harts s.shown ≡ Some h
 
 -- the same line of the same plan, wherever it stands
 pub record IsOfLine (b c : LineView) : Type 0 where
@@ -25,9 +25,9 @@ pub record IsOfLine (b c : LineView) : Type 0 where
 
 -- it stands at the first moment at which the hart has so many steps
 pub record IsFirstWith (t : LineView) (hart count : ℕ) : Type 0 where
-  pub has : counts_of t.now.machine hart ≡ count
-  pub fewer : (moment : ℕ) (m : MachineState) → moment < t.now.moment → IsAt t.legs t.start moment m → counts_of m hart < count
+  pub has : counts_of t.stands.machine hart ≡ count
+  pub fewer : (moment : ℕ) (m : MachineState) → moment < t.stands.moment → IsAt t.legs t.start moment m → counts_of m hart < count
 
 -- it stands one step before the first moment at which the hart has so many steps
 abbrev pub IsBeforeStep : LineView → ℕ → ℕ → Type 0
-IsBeforeStep b hart count = (t : LineView) × IsOfLine b t × IsFirstWith t hart count × (b.now.moment + 1 ≡ t.now.moment)
+IsBeforeStep b hart count = (t : LineView) × IsOfLine b t × IsFirstWith t hart count × (b.stands.moment + 1 ≡ t.stands.moment)

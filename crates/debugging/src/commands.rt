@@ -1,6 +1,6 @@
 //! What packets ask for.
 
-ghost use Rattle.std.specs.Prelude.{◌≡◌, ℕ, codes};
+ghost use Rattle.std.specs.Prelude.{◌≡◌, ◌==◌, ◌||◌, ℕ, codes};
 ghost use Rattle.debugging.specs.declared.commands.Command.TheVariants as Command;
 ghost use Rattle.debugging.specs.declared.commands.Show.TheVariants as Show;
 ghost use Rattle.debugging.specs.Asked.{IsHex, IsRange, AsksForAnother, AsksForRegister, AsksForMemory};
@@ -124,19 +124,17 @@ fn read_register(number: &[u8]) -> Command<'_>
     }
 }
 
-/// What the packet asks for.
-pub(crate) fn read_command(packet: &[u8]) -> Command<'_>
-    ensures registers { packet.now ≡ codes "g" → result ≡ Command.Show Show.Registers }
-    ensures register { (n : ℕ) → AsksForRegister packet.now n → result ≡ Command.Show (Show.Register n) }
-    ensures memory { (address many : ℕ) → AsksForMemory packet.now address many → result ≡ Command.Show (Show.Memory (record { first = address; length = many })) }
-    ensures change { AsksForAnother packet.now → result ≡ Command.Change }
+/// Whether a packet of this kind would change the past.
+fn is_change(kind: u8) -> bool
+    ensures { result ≡ (kind == 71 || kind == 80 || kind == 77 || kind == 88) }
 {
+    kind == b'G' || kind == b'P' || kind == b'M' || kind == b'X'
+}
+
+/// Of a packet that shows no register and no memory, and changes nothing.
+fn read_other(packet: &[u8]) -> Command<'_> {
     match packet {
         [b'?'] => Command::Show(Show::Why),
-        [b'g'] => Command::Show(Show::Registers),
-        [b'p', number @ ..] => read_register(number),
-        [b'm', range @ ..] => read_memory(range),
-        [b'G' | b'P' | b'M' | b'X', ..] => Command::Change,
         [b'H', rest @ ..] => Command::Choose(rest),
         [b'T', number @ ..] => Command::IsThere(number),
         [b'Z' | b'z', ..] => read_points(packet),
@@ -145,4 +143,30 @@ pub(crate) fn read_command(packet: &[u8]) -> Command<'_>
         [b'k', ..] => Command::Kill,
         _ => read_way(packet),
     }
+}
+
+/// What the packet asks for.
+#[tactic(auto, using(crate::proofs::Changes::changing, crate::proofs::Changes::not_changing))]
+pub(crate) fn read_command(packet: &[u8]) -> Command<'_>
+    ensures registers { packet.now ≡ codes "g" → result ≡ Command.Show Show.Registers }
+    ensures register { (n : ℕ) → AsksForRegister packet.now n → result ≡ Command.Show (Show.Register n) }
+    ensures memory { (address many : ℕ) → AsksForMemory packet.now address many → result ≡ Command.Show (Show.Memory (record { first = address; length = many })) }
+    ensures change { AsksForAnother packet.now → result ≡ Command.Change }
+{
+    let Some((kind, rest)) = packet.split_first() else {
+        return Command::Unknown;
+    };
+    if is_change(*kind) {
+        return Command::Change;
+    }
+    if *kind == b'p' {
+        return read_register(rest);
+    }
+    if *kind == b'm' {
+        return read_memory(rest);
+    }
+    if *kind == b'g' && rest.is_empty() {
+        return Command::Show(Show::Registers);
+    }
+    read_other(packet)
 }

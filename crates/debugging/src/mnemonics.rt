@@ -134,7 +134,7 @@ fn row_of(word: u32) -> Option<&'static Row> {
 
 /// The register whose number stands from this bit on.
 fn register_at(word: u32, bit: u32) -> &'static [u8] {
-    register_name((word >> bit & 31) as u8)
+    register_name((word.wrapping_shr(bit) % 32) as u8)
 }
 
 /// A number whose sign is this bit: its value modulo 2 ^ 32.
@@ -251,10 +251,12 @@ fn first_registers(form: Form) -> &'static [u32] {
 pub fn mnemonic(alloc: Global, pc: u32, word: u32) -> Result<Vec<u8>, Memory> {
     let mut text = Vec::new(alloc);
     match row_of(word) {
-        Some((_, _, name, form)) if decode(word).is_some() => {
-            put_name(&mut text, word, name, *form)?;
-            put_registers(&mut text, word, first_registers(*form))?;
-            put_rest(&mut text, pc, word, *form)?;
+        Some(row) if decode(word).is_some() => {
+            let name = row.2;
+            let form = row.3;
+            put_name(&mut text, word, &name, form)?;
+            put_registers(&mut text, word, first_registers(form))?;
+            put_rest(&mut text, pc, word, form)?;
         }
         _ => text.extend_from_slice(b"illegal")?,
     }

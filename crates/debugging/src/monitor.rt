@@ -78,7 +78,7 @@ fn read_watched(text: &[u8]) -> Option<Bytes> {
 }
 
 /// The step at which the hart puts out the output with this number: the line stands anywhere then.
-#[tactic(auto, using(crate::proofs::Lines::led_on))]
+#[tactic(auto, using(crate::proofs::Lines::led_on, crate::proofs::Lines::stays, crate::proofs::Lines::goes_on))]
 fn output_step(line: &mut Timeline, hart: Hart, number: u64) -> Result<Option<Count>, ReplayFault>
     ensures line { IsOfLine line.old line.new }
 {
@@ -143,7 +143,7 @@ fn last_race(line: &mut Timeline, word: Bytes) -> Result<Option<(Touch, Touch)>,
     };
     for _look in 0..TOUCH_LIMIT {
         let Some(touch) = touch_before(line, word)? else {
-            break;
+            return Ok(None);
         };
         if touch.hart != later.hart && (touch.writes || later.writes) {
             return Ok(Some((touch, later)));
@@ -164,8 +164,18 @@ fn put_touch(text: &mut Vec<u8>, touch: Touch) -> Result<(), Memory> {
 }
 
 impl Session {
+    /// Goes back to where it stood, since there is no such step.
+    #[tactic(auto, using(crate::proofs::Lines::led_on, crate::proofs::Lines::stays, crate::proofs::Lines::goes_on))]
+    fn stay(&mut self, text: &mut Vec<u8>, now: u64) -> Result<(), ReplayFault>
+        requires { now ≤ steps_of self.old.line.legs }
+        ensures line { IsOfLine self.old.line self.new.line }
+    {
+        self.line.go_to(now)?;
+        Ok(put(text, b"no such step\n")?)
+    }
+
     /// Goes to a step of a hart, where there is one, and else back to where it stood.
-    #[tactic(auto, using(crate::proofs::Lines::led_on))]
+    #[tactic(auto, using(crate::proofs::Lines::led_on, crate::proofs::Lines::stays, crate::proofs::Lines::goes_on, crate::proofs::Lines::within))]
     fn go_to_step(
         &mut self,
         text: &mut Vec<u8>,
@@ -176,20 +186,18 @@ impl Session {
         requires { now ≤ steps_of self.old.line.legs }
         ensures line { IsOfLine self.old.line self.new.line }
     {
-        let is_there = match count {
-            Some(count) => self.line.go_to_count(hart, count)?,
-            None => false,
+        let Some(count) = count else {
+            return self.stay(text, now);
         };
-        if is_there {
-            self.shown = hart;
-            return Ok(put_place(text, &self.line)?);
+        if !self.line.go_to_count(hart, count)? {
+            return self.stay(text, now);
         }
-        self.line.go_to(now)?;
-        Ok(put(text, b"no such step\n")?)
+        self.shown = hart;
+        Ok(put_place(text, &self.line)?)
     }
 
     /// Says who wrote the word last.
-    #[tactic(auto, using(crate::proofs::Lines::led_on))]
+    #[tactic(auto, using(crate::proofs::Lines::led_on, crate::proofs::Lines::stays, crate::proofs::Lines::goes_on, crate::proofs::Lines::within))]
     fn tell_writer(&mut self, text: &mut Vec<u8>, word: Bytes) -> Result<(), ReplayFault>
         ensures line { IsOfLine self.old.line self.new.line }
     {
@@ -203,7 +211,7 @@ impl Session {
     }
 
     /// Says which two steps of two harts touched the word last, of which one wrote it.
-    #[tactic(auto, using(crate::proofs::Lines::led_on))]
+    #[tactic(auto, using(crate::proofs::Lines::led_on, crate::proofs::Lines::stays, crate::proofs::Lines::goes_on, crate::proofs::Lines::within))]
     fn tell_race(&mut self, text: &mut Vec<u8>, word: Bytes) -> Result<(), ReplayFault>
         ensures line { IsOfLine self.old.line self.new.line }
     {
@@ -247,15 +255,29 @@ impl Session {
         ensures line { IsOfLine self.old.line self.new.line }
     {
         let mut text = Vec::new(alloc);
-        match hex::decode(alloc, digits) {
-            Ok(command) => self.tell_of(&mut text, &command)?,
-            Err(FromHexError::OutOfMemory) => return Err(ReplayFault::Memory),
-            Err(_) => put(&mut text, HELP)?,
-        }
+        self.tell_digits(alloc, &mut text, digits)?;
         Ok(hex_text(alloc, &text)?)
     }
 
+    /// Does what the command asks whose text these digits are.
+    #[tactic(auto, using(crate::proofs::Lines::led_on, crate::proofs::Lines::stays, crate::proofs::Lines::goes_on))]
+    fn tell_digits(
+        &mut self,
+        alloc: Global,
+        text: &mut Vec<u8>,
+        digits: &[u8],
+    ) -> Result<(), ReplayFault>
+        ensures line { IsOfLine self.old.line self.new.line }
+    {
+        match hex::decode(alloc, digits) {
+            Ok(command) => self.tell_of(text, &command),
+            Err(FromHexError::OutOfMemory) => Err(ReplayFault::Memory),
+            Err(_) => Ok(put(text, HELP)?),
+        }
+    }
+
     /// Does what the command asks.
+    #[tactic(auto, using(crate::proofs::Lines::led_on, crate::proofs::Lines::stays, crate::proofs::Lines::goes_on))]
     fn tell_of(&mut self, text: &mut Vec<u8>, command: &[u8]) -> Result<(), ReplayFault>
         ensures line { IsOfLine self.old.line self.new.line }
     {

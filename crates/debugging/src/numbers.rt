@@ -1,6 +1,6 @@
 //! Numbers in packets.
 
-ghost use Rattle.std.specs.Prelude.{◌≡◌, ◌⊎◌, ℕ, ◌-◌, ◌≤◌, ◌++◌, ◌∷◌, length, replicate, Some};
+ghost use Rattle.std.specs.Prelude.{◌≡◌, ◌⊎◌, ℕ, ◌-◌, ◌≤◌, ◌++◌, ◌∷◌, length, replicate, Some, IfSome, IfNone};
 ghost use Rattle.debugging.specs.Asked.{IsHex, IsRange, HasNone};
 
 use ft_types::{Hart, read_word};
@@ -17,14 +17,28 @@ fn padded(text: &[u8]) -> [u8; 8]
 }
 
 /// The number that these digits to the base 16 are, one to eight of them.
-#[tactic(auto, using(crate::proofs::Digits::hex_read, crate::proofs::Digits::hex_not_read))]
 pub(crate) fn read_hex(text: &[u8]) -> Option<u32>
     ensures { (n : ℕ) → IsHex text.now n → result ≡ Some n }
 {
-    if text.is_empty() || text.len() > 8 {
+    if text.len() == 0 {
+        return None;
+    }
+    if text.len() > 8 {
         return None;
     }
     read_word(&padded(text))
+}
+
+/// What stands before the first such byte, and behind it.
+fn split(text: &[u8], byte: u8) -> Option<(&[u8], &[u8])>
+    ensures found { IfSome result (λ f. text.now ≡ f.0.now ++ byte ∷ f.1.now) }
+    ensures one { IfSome result (λ f. HasNone byte f.0.now) }
+    ensures none { IfNone result (HasNone byte text.now) }
+{
+    match text.iter().position(|other| *other == byte) {
+        None => None,
+        Some(end) => Some((&text[..end], &text[end + 1..])),
+    }
 }
 
 /// What stands before the first such byte, and behind it. Nothing stands behind it where there is none.
@@ -32,22 +46,20 @@ pub(crate) fn cut(text: &[u8], byte: u8) -> (&[u8], &[u8])
     ensures one { HasNone byte result.0.now }
     ensures all { (text.now ≡ result.0.now ++ byte ∷ result.1.now) ⊎ (text.now ≡ result.0.now) }
 {
-    match text.iter().position(|other| *other == byte) {
-        Some(end) => (&text[..end], &text[end + 1..]),
+    match split(text, byte) {
         None => (text, b""),
+        Some((front, behind)) => (front, behind),
     }
 }
 
 /// `A,L`: so many bytes from an address on.
-#[tactic(auto, using(crate::proofs::Digits::cut_is))]
 pub(crate) fn read_range(text: &[u8]) -> Option<Bytes>
     ensures { (address many : ℕ) → IsRange text.now address many → result ≡ Some (record { first = address; length = many }) }
 {
     let (first, length) = cut(text, b',');
-    Some(Bytes {
-        first: read_hex(first)?,
-        length: read_hex(length)?,
-    })
+    let first = read_hex(first)?;
+    let length = read_hex(length)?;
+    Some(Bytes { first, length })
 }
 
 /// The hart whose thread has this number, of so many harts.

@@ -1,8 +1,8 @@
 //! Registers of a hart, by gdb's numbers.
 
-ghost use Rattle.std.specs.Prelude.{◌≡◌, ◌++◌, IfOk, OnOk, option_map};
+ghost use Rattle.std.specs.Prelude.{◌≡◌, ◌<◌, ◌++◌, slice_index, IfOk, OnOk, option_map};
 ghost use Rattle.rv32_hart.specs.Csrs.{read_csr};
-ghost use Rattle.debugging.specs.Shown.{word_digits, registers_text, register_at};
+ghost use Rattle.debugging.specs.Shown.{word_digits, words_of, registers_text, register_at};
 
 use ft_types::Memory;
 use rv32_hart::HartState;
@@ -34,17 +34,32 @@ fn csr_word(hart: &HartState, address: u32) -> Option<u32>
     }
 }
 
+/// The word of a register of x0 to x31.
+#[tactic(auto, using(crate::proofs::Showing::word_behind))]
+fn general_word(hart: &HartState, number: u32) -> u32
+    requires { number < 32 }
+    ensures { result ≡ slice_index (words_of hart.now) number }
+{
+    if number == 0 {
+        return 0;
+    }
+    hart.registers()[number as usize - 1]
+}
+
 /// The register with this number.
 pub(crate) fn register_word(hart: &HartState, number: u32) -> Option<u32>
     ensures { result ≡ register_at hart.now number }
 {
-    match number {
-        0 => Some(0),
-        1..=31 => Some(hart.registers()[number as usize - 1]),
-        PC_NUMBER => Some(hart.pc()),
-        CSR_NUMBER.. => csr_word(hart, number - CSR_NUMBER),
-        _ => None,
+    if number < PC_NUMBER {
+        return Some(general_word(hart, number));
     }
+    if number == PC_NUMBER {
+        return Some(hart.pc());
+    }
+    if number < CSR_NUMBER {
+        return None;
+    }
+    csr_word(hart, number - CSR_NUMBER)
 }
 
 /// Puts a word: two digits for each byte, the lowest byte first.

@@ -20,7 +20,7 @@ pub(crate) struct Arrival {
 
 /// How many steps a hart has taken.
 pub(crate) fn count_of(line: &Timeline, hart: Hart) -> Count
-    ensures value { result ≡ counts_of line.now.now.machine hart }
+    ensures value { result ≡ counts_of line.now.stands.machine hart }
     ensures limit { result < COUNT_LIMIT }
 {
     line.counts().count_of(hart)
@@ -28,8 +28,8 @@ pub(crate) fn count_of(line: &Timeline, hart: Hart) -> Count
 
 /// A hart, where the machine has it.
 pub(crate) fn hart_at(line: &Timeline, hart: Hart) -> Option<&HartState>
-    ensures some { IfSome result (λ h. slice_get line.now.now.machine.harts hart ≡ Some h.now) }
-    ensures none { IfNone result (length line.now.now.machine.harts ≤ hart) }
+    ensures some { IfSome result (λ h. slice_get line.now.stands.machine.harts hart ≡ Some h.now) }
+    ensures none { IfNone result (length line.now.stands.machine.harts ≤ hart) }
 {
     if hart.number() < line.harts() {
         Some(line.hart(hart))
@@ -44,24 +44,29 @@ fn next_hart(line: &Timeline, otherwise: Hart) -> Hart {
 }
 
 /// On to the first moment at which the hart has one step more. Whether there is one.
-#[tactic(auto, using(crate::proofs::Lines::led_on))]
+#[tactic(auto, using(crate::proofs::Lines::led_on, crate::proofs::Lines::stays, crate::proofs::Lines::goes_on))]
 pub(crate) fn step(line: &mut Timeline, hart: Hart) -> Result<bool, ReplayFault>
     ensures line { IsOfLine line.old line.new }
-    ensures led { IfOk result (λ led. led ≡ true → IsFirstWith line.new hart (counts_of line.old.now.machine hart + 1)) }
+    ensures led { IfOk result (λ led. led ≡ true → IsFirstWith line.new hart (counts_of line.old.stands.machine hart + 1)) }
     ensures end { IfOk result (λ led. led ≡ false → line.new ≡ line.old) }
 {
     let count = count_of(line, hart);
-    line.go_to_count(hart, count + 1)
+    let is_led = line.go_to_count(hart, count + 1)?;
+    Ok(is_led)
 }
 
 /// Back to where the hart's last step comes next. Whether there was one.
-#[tactic(auto, using(crate::proofs::Lines::led_on))]
+#[tactic(auto, using(crate::proofs::Lines::led_on, crate::proofs::Lines::stays, crate::proofs::Lines::goes_on))]
 pub(crate) fn step_back(line: &mut Timeline, hart: Hart) -> Result<bool, ReplayFault>
     ensures line { IsOfLine line.old line.new }
-    ensures led { IfOk result (λ led. led ≡ true → IsBeforeStep line.new hart (counts_of line.old.now.machine hart)) }
+    ensures led { IfOk result (λ led. led ≡ true → IsBeforeStep line.new hart (counts_of line.old.stands.machine hart)) }
 {
     let count = count_of(line, hart);
-    if count == 0 || !line.go_to_count(hart, count)? {
+    if count == 0 {
+        return Ok(false);
+    }
+    let is_there = line.go_to_count(hart, count)?;
+    if !is_there {
         return Ok(false);
     }
     let now = line.now();
@@ -85,19 +90,39 @@ fn is_watch(reason: Reason) -> bool {
     matches!(reason, Reason::Point(Point::Watch(_, _)))
 }
 
-/// Back to the moment before, where there is one.
-fn go_before(line: &mut Timeline) -> Result<(), ReplayFault>
+/// Back to the moment before, where there is one and the reason is a point that watches.
+#[tactic(auto, using(crate::proofs::Lines::led_on, crate::proofs::Lines::stays, crate::proofs::Lines::goes_on))]
+fn go_before(line: &mut Timeline, reason: Reason) -> Result<(), ReplayFault>
     ensures line { IsOfLine line.old line.new }
 {
     let here = line.now();
-    if here > 0 {
-        line.go_to(here - 1)?;
+    if here == 0 || !is_watch(reason) {
+        return Ok(());
+    }
+    line.go_to(here - 1)
+}
+
+/// The step that comes next, where there is one.
+fn forward(line: &mut Timeline) -> Result<(), ReplayFault>
+    ensures line { IsOfLine line.old line.new }
+{
+    let _is_done = line.forward()?;
+    Ok(())
+}
+
+/// That step, where the reason is a point that watches.
+#[tactic(auto, using(crate::proofs::Lines::led_on, crate::proofs::Lines::stays, crate::proofs::Lines::goes_on))]
+fn go_behind(line: &mut Timeline, reason: Reason) -> Result<(), ReplayFault>
+    ensures line { IsOfLine line.old line.new }
+{
+    if is_watch(reason) {
+        return forward(line);
     }
     Ok(())
 }
 
 /// On to a point or to the end. A step that is watched comes next then: gdb takes it before it looks at the word.
-#[tactic(auto, using(crate::proofs::Lines::led_on))]
+#[tactic(auto, using(crate::proofs::Lines::led_on, crate::proofs::Lines::stays, crate::proofs::Lines::goes_on))]
 fn go_on(line: &mut Timeline, points: &[Point], hart: Hart) -> Result<Arrival, ReplayFault>
     ensures line { IsOfLine line.old line.new }
 {
@@ -105,15 +130,13 @@ fn go_on(line: &mut Timeline, points: &[Point], hart: Hart) -> Result<Arrival, R
         Stop::At(number) => reason_at(points, number),
         Stop::End | Stop::Begin => Reason::End,
     };
-    if is_watch(reason) {
-        go_before(line)?;
-    }
+    go_before(line, reason)?;
     let hart = next_hart(line, hart);
     Ok(Arrival { hart, reason })
 }
 
 /// Back to a point or to the beginning. A step that is watched was the last one then: gdb takes it back before it looks at the word.
-#[tactic(auto, using(crate::proofs::Lines::led_on))]
+#[tactic(auto, using(crate::proofs::Lines::led_on, crate::proofs::Lines::stays, crate::proofs::Lines::goes_on))]
 fn go_back(line: &mut Timeline, points: &[Point], hart: Hart) -> Result<Arrival, ReplayFault>
     ensures line { IsOfLine line.old line.new }
 {
@@ -122,10 +145,14 @@ fn go_back(line: &mut Timeline, points: &[Point], hart: Hart) -> Result<Arrival,
         Stop::Begin | Stop::End => Reason::Begin,
     };
     let hart = next_hart(line, hart);
-    if is_watch(reason) {
-        let _is_done = line.forward()?;
-    }
+    go_behind(line, reason)?;
     Ok(Arrival { hart, reason })
+}
+
+/// Where a hart was led, or did not come.
+fn arrived(hart: Hart, is_led: bool, otherwise: Reason) -> Arrival {
+    let reason = if is_led { Reason::Led } else { otherwise };
+    Arrival { hart, reason }
 }
 
 /// Goes this way, with the steps of this hart, or up to one of these points.
@@ -137,18 +164,16 @@ pub(crate) fn go(
 ) -> Result<Arrival, ReplayFault>
     ensures line { IsOfLine line.old line.new }
 {
-    let (is_led, reason) = match way {
-        Way::Step => (step(line, hart)?, Reason::End),
-        Way::StepBack => (step_back(line, hart)?, Reason::Begin),
-        Way::Continue => return go_on(line, points, hart),
-        Way::ContinueBack => return go_back(line, points, hart),
-    };
-    let reason = if is_led { Reason::Led } else { reason };
-    Ok(Arrival { hart, reason })
+    match way {
+        Way::Step => Ok(arrived(hart, step(line, hart)?, Reason::End)),
+        Way::StepBack => Ok(arrived(hart, step_back(line, hart)?, Reason::Begin)),
+        Way::Continue => go_on(line, points, hart),
+        Way::ContinueBack => go_back(line, points, hart),
+    }
 }
 
 /// The step that touched what the point watches last, by its hart and count. The line stands before it then.
-#[tactic(auto, using(crate::proofs::Lines::led_on))]
+#[tactic(auto, using(crate::proofs::Lines::led_on, crate::proofs::Lines::stays, crate::proofs::Lines::goes_on))]
 pub(crate) fn last_touch(
     line: &mut Timeline,
     point: Point,

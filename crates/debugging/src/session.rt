@@ -153,7 +153,7 @@ impl Session {
         ensures register { (h : HartRecord) (n : ℕ) → show ≡ ShowOf.Register n → IsShown self.now h →
             IfOk result (λ text. text.items ≡ or_wrong (option_map word_digits (register_at h n))) }
         ensures memory { (range : Bytes) → show ≡ ShowOf.Memory range → IfOk result (λ text. (bytes : List ℕ) ×
-            ShowsBytes self.now.line.now.machine.pages range.first range.length bytes × (text.items ≡ memory_answer range.length bytes)) }
+            ShowsBytes self.now.line.stands.machine.pages range.first range.length bytes × (text.items ≡ memory_answer range.length bytes)) }
     {
         match show {
             Show::Memory(range) => memory_text(alloc, &self.line, range),
@@ -161,37 +161,53 @@ impl Session {
         }
     }
 
-    /// What a packet is answered that is about points or threads.
-    fn note(&mut self, alloc: Global, command: &Command<'_>) -> Result<Vec<u8>, Memory>
+    /// Does what a packet wants that is about points or threads. Whether it is right.
+    fn note(&mut self, command: &Command<'_>) -> Result<bool, Memory>
         ensures line { self.new.line ≡ self.old.line }
     {
-        let harts = self.line.harts();
-        let is_right = match command {
-            Command::Choose(what) => self.choose(what),
-            Command::IsThere(number) => read_thread(number, harts).is_some(),
-            Command::Insert(point) => put_point(&mut self.points, *point)?,
+        match command {
+            Command::Choose(what) => Ok(self.choose(what)),
+            Command::IsThere(number) => Ok(read_thread(number, self.line.harts()).is_some()),
+            Command::Insert(point) => put_point(&mut self.points, *point),
             Command::Remove(point) => {
                 drop_point(&mut self.points, *point);
-                true
+                Ok(true)
             }
-            _ => false,
-        };
+            _ => Ok(false),
+        }
+    }
+
+    /// What such a packet is answered.
+    fn answer_note(&mut self, alloc: Global, command: &Command<'_>) -> Result<Vec<u8>, Memory>
+        ensures line { self.new.line ≡ self.old.line }
+    {
+        let is_right = self.note(command)?;
         told(alloc, is_right)
     }
 
+    /// What is said to the command.
+    #[tactic(auto, using(crate::proofs::Lines::led_on, crate::proofs::Lines::stays, crate::proofs::Lines::goes_on))]
+    fn say(&mut self, alloc: Global, command: &Command<'_>) -> Result<Vec<u8>, ReplayFault>
+        ensures line { IsOfLine self.old.line self.new.line }
+    {
+        match command {
+            Command::Go(way, thread) => self.go(alloc, *way, thread),
+            Command::Query(packet) => self.ask(alloc, packet),
+            Command::Unknown => Ok(Vec::new(alloc)),
+            _ => Ok(self.answer_note(alloc, command)?),
+        }
+    }
+
     /// What the command is answered.
+    #[tactic(auto, using(crate::proofs::Lines::led_on, crate::proofs::Lines::stays, crate::proofs::Lines::goes_on))]
     fn obey(&mut self, alloc: Global, command: &Command<'_>) -> Result<Answer, ReplayFault>
         ensures line { IsOfLine self.old.line self.new.line }
     {
-        let text = match command {
-            Command::Kill => return Ok(Answer::Over),
-            Command::Detach => return Ok(Answer::SaysLast(told(alloc, true)?)),
-            Command::Go(way, thread) => self.go(alloc, *way, thread)?,
-            Command::Query(packet) => self.ask(alloc, packet)?,
-            Command::Unknown => Vec::new(alloc),
-            _ => self.note(alloc, command)?,
-        };
-        Ok(Answer::Says(text))
+        match command {
+            Command::Kill => Ok(Answer::Over),
+            Command::Detach => Ok(Answer::SaysLast(told(alloc, true)?)),
+            _ => Ok(Answer::Says(self.say(alloc, command)?)),
+        }
     }
 
     /// What the command is answered, or that the log leads nowhere.
@@ -214,7 +230,7 @@ impl Session {
             IfOk result (Says (or_wrong (option_map word_digits (register_at h n)))) × (self.new ≡ self.old) }
 
         ensures memory { (address many : ℕ) → AsksForMemory packet.now address many → IfOk result (λ a. (bytes : List ℕ) ×
-            ShowsBytes self.old.line.now.machine.pages address many bytes × Says (memory_answer many bytes) a) × (self.new ≡ self.old) }
+            ShowsBytes self.old.line.stands.machine.pages address many bytes × Says (memory_answer many bytes) a) × (self.new ≡ self.old) }
 
         // The past is not changed.
         ensures another { AsksForAnother packet.now → IfOk result (Says (codes "E01")) × (self.new ≡ self.old) }

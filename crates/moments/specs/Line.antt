@@ -86,17 +86,17 @@ pub record LineView : Type 0 where
   pub guest : GuestParts
   pub legs : List PlannedLeg
   pub start : MachineState
-  pub now : Standing
+  pub stands : Standing
 
 -- the leg in which it stands
 abbrev pub InLeg : LineView → (PlannedLeg → Type 0) → Type 0
-InLeg t P = (leg : PlannedLeg) → slice_get t.legs t.now.place ≡ Some leg → P leg
+InLeg t P = (leg : PlannedLeg) → slice_get t.legs t.stands.place ≡ Some leg → P leg
 
 -- nobody is below the end of the last leg
 pub record IsAtEnd (t : LineView) : Type 0 where
-  pub last : length t.legs ≤ t.now.place + 1
-  pub ends : InLeg t (λ leg. AreAtEnds t.now.machine leg.ends)
+  pub last : length t.legs ≤ t.stands.place + 1
+  pub ends : InLeg t (λ leg. AreAtEnds t.stands.machine leg.ends)
 
 -- it stands so many steps further on
 abbrev pub HasGoneOn : LineView → LineView → ℕ → Type 0
-HasGoneOn b c steps = (c ≡ record b { now = c.now }) × (c.now.moment ≡ b.now.moment + steps)
+HasGoneOn b c steps = (c ≡ record b { stands = c.stands }) × (c.stands.moment ≡ b.stands.moment + steps)

@@ -46,7 +46,7 @@ pub struct Timeline {
     /// How many steps the line has.
     last: u64,
     first: Snapshot,
-    now: Snapshot,
+    stands: Snapshot,
     kept: Vec<Snapshot>,
     /// How many steps lie between two moments at which machines are kept.
     stretch: u64,
@@ -63,7 +63,7 @@ impl Drop for Timeline {
             plan: _,
             last: _,
             first: _,
-            now: _,
+            stands: _,
             kept: _,
             stretch: _,
             due: _,
@@ -81,9 +81,9 @@ impl Model for Timeline {
 
     ghost Value = { LineView };
 
-    ghost view = { λ t. record { guest = t.plan.guest; legs = t.plan.legs; start = machine_of t.first.machine; now = standing_of t.now } };
+    ghost view = { λ t. record { guest = t.plan.guest; legs = t.plan.legs; start = machine_of t.first.machine; stands = standing_of t.stands } };
 
-    ghost invariant = { λ t. IsTimeline t.plan.guest t.plan.legs (standing_of t.first) (standing_of t.now) (map standing_of t.kept.items) t.stops ×
+    ghost invariant = { λ t. IsTimeline t.plan.guest t.plan.legs (standing_of t.first) (standing_of t.stands) (map standing_of t.kept.items) t.stops ×
         (t.last ≡ steps_of t.plan.legs) };
 }
 
@@ -123,7 +123,7 @@ fn begun(alloc: Global, plan: Plan, first: Snapshot) -> Result<Timeline, Memory>
     ensures guest { IfOk result (λ t. t.guest ≡ plan.guest) }
     ensures legs { IfOk result (λ t. t.legs ≡ plan.legs) }
     ensures start { IfOk result (λ t. t.start ≡ machine_of first.machine) }
-    ensures moment { IfOk result (λ t. t.now.moment ≡ 0) }
+    ensures moment { IfOk result (λ t. t.stands.moment ≡ 0) }
 {
     let mut first = first;
     let mut now = shared(&mut first)?;
@@ -151,7 +151,7 @@ impl Timeline {
         ensures other_guest { (result ≡ Err fault.OtherGuest) ↔ (plan.guest ≢ guest_of image.now) }
         ensures plan { IfOk result (λ t. t.legs ≡ plan.legs) }
         ensures start { IfOk result (λ t. t.start ≡ boot_machine image.now) }
-        ensures moment { IfOk result (λ t. t.now.moment ≡ 0) }
+        ensures moment { IfOk result (λ t. t.stands.moment ≡ 0) }
     {
         if !is_same_guest(&plan.guest(), &image.guest()) {
             return Err(ReplayFault::OtherGuest);
@@ -168,11 +168,11 @@ impl Timeline {
     /// The present moment: how many steps of the line were taken.
     #[inline(always)]
     pub fn now(&self) -> u64
-        ensures value { result ≡ self.now.now.moment }
-        ensures at { IsAt self.now.legs self.now.start result self.now.now.machine }
+        ensures value { result ≡ self.now.stands.moment }
+        ensures at { IsAt self.now.legs self.now.start result self.now.stands.machine }
         ensures within { result ≤ steps_of_legs self.now.legs }
     {
-        self.now.moment
+        self.stands.moment
     }
 
     /// How many steps the line has.
@@ -191,31 +191,31 @@ impl Timeline {
 
     /// The number of harts.
     pub fn harts(&self) -> u8
-        ensures { result ≡ length self.now.now.machine.harts }
+        ensures { result ≡ length self.now.stands.machine.harts }
     {
-        self.now.machine.harts()
+        self.stands.machine.harts()
     }
 
     /// The number of pages.
     pub fn pages(&self) -> u16
-        ensures { result ≡ length self.now.now.machine.pages }
+        ensures { result ≡ length self.now.stands.machine.pages }
     {
-        self.now.machine.pages()
+        self.stands.machine.pages()
     }
 
     /// The leg of the present moment, where the plan has one.
     #[inline(always)]
     pub fn leg(&self) -> Option<&PlannedLeg>
-        ensures some { IfSome result (λ leg. slice_get self.now.legs self.now.now.place ≡ Some leg.now) }
-        ensures none { IfNone result (length self.now.legs ≤ self.now.now.place) }
+        ensures some { IfSome result (λ leg. slice_get self.now.legs self.now.stands.place ≡ Some leg.now) }
+        ensures none { IfNone result (length self.now.legs ≤ self.now.stands.place) }
     {
-        self.plan.legs().get(self.now.leg)
+        self.plan.legs().get(self.stands.leg)
     }
 
     /// The term of the leg of the present moment; 0 where the plan has no leg.
     pub fn term(&self) -> Term
         ensures leg { InLeg self.now (λ leg. result ≡ leg.term) }
-        ensures none { length self.now.legs ≤ self.now.now.place → result ≡ 0 }
+        ensures none { length self.now.legs ≤ self.now.stands.place → result ≡ 0 }
     {
         match self.leg() {
             Some(leg) => leg.term,
@@ -225,58 +225,58 @@ impl Timeline {
 
     /// How many steps each hart has taken.
     pub fn counts(&self) -> Counts
-        ensures harts { length result ≡ length self.now.now.machine.harts }
-        ensures value { (hart : ℕ) → count_at result hart ≡ counts_of self.now.now.machine hart }
+        ensures harts { length result ≡ length self.now.stands.machine.harts }
+        ensures value { (hart : ℕ) → count_at result hart ≡ counts_of self.now.stands.machine hart }
     {
-        self.now.machine.counts()
+        self.stands.machine.counts()
     }
 
     /// A hart.
     #[inline(always)]
     pub fn hart(&self, hart: Hart) -> &HartState
-        requires { hart < length self.now.now.machine.harts }
-        ensures { slice_get self.now.now.machine.harts hart ≡ Some result.now }
+        requires { hart < length self.now.stands.machine.harts }
+        ensures { slice_get self.now.stands.machine.harts hart ≡ Some result.now }
     {
-        self.now.machine.hart(hart)
+        self.stands.machine.hart(hart)
     }
 
     /// The byte at an address of RAM.
     pub fn byte(&self, address: u32) -> Option<u8>
-        ensures byte { IfSome result (λ b. b ≡ slice_index (slice_index_or self.now.now.machine.pages (page_at address) []) (offset_at address)) }
-        ensures none { IfNone result (in_ram (length self.now.now.machine.pages) address ≡ false) }
+        ensures byte { IfSome result (λ b. b ≡ slice_index (slice_index_or self.now.stands.machine.pages (page_at address) []) (offset_at address)) }
+        ensures none { IfNone result (in_ram (length self.now.stands.machine.pages) address ≡ false) }
     {
         let (page, offset) = place_of(self.pages(), address)?;
-        Some(self.now.machine.byte(page, offset))
+        Some(self.stands.machine.byte(page, offset))
     }
 
     /// The word at an address of RAM that is a multiple of four.
     pub fn word(&self, address: u32) -> Option<u32>
         requires { address % 4 ≡ 0 }
-        ensures word { IfSome result (λ w. w ≡ word_at (slice_index_or self.now.now.machine.pages (page_at address) []) (offset_at address)) }
-        ensures none { IfNone result (in_ram (length self.now.now.machine.pages) address ≡ false) }
+        ensures word { IfSome result (λ w. w ≡ word_at (slice_index_or self.now.stands.machine.pages (page_at address) []) (offset_at address)) }
+        ensures none { IfNone result (in_ram (length self.now.stands.machine.pages) address ≡ false) }
     {
         let (page, offset) = place_of(self.pages(), address)?;
-        Some(self.now.machine.word(page, offset))
+        Some(self.stands.machine.word(page, offset))
     }
 
     /// The hart whose step comes next, where one can go on.
     #[inline(always)]
     pub fn next(&self) -> Option<Hart>
-        ensures next { IfSome result (λ hart. InLeg self.now (λ leg. IsNext leg self.now.now.machine hart)) }
-        ensures there { IfSome result (λ hart. hart < length self.now.now.machine.harts) }
-        ensures place { IfSome result (λ hart. self.now.now.place < length self.now.legs) }
-        ensures none { IfNone result (InLeg self.now (λ leg. NoneMayGo leg self.now.now.machine)) }
+        ensures next { IfSome result (λ hart. InLeg self.now (λ leg. IsNext leg self.now.stands.machine hart)) }
+        ensures there { IfSome result (λ hart. hart < length self.now.stands.machine.harts) }
+        ensures place { IfSome result (λ hart. self.now.stands.place < length self.now.legs) }
+        ensures none { IfNone result (InLeg self.now (λ leg. NoneMayGo leg self.now.stands.machine)) }
     {
         match self.leg() {
-            Some(leg) => next_hart(leg, &self.now.machine, &self.stops),
+            Some(leg) => next_hart(leg, &self.stands.machine, &self.stops),
             None => None,
         }
     }
 
     /// The inputs of a hart's next step.
     pub fn inputs(&self, hart: Hart) -> &[Input]
-        requires { hart < length self.now.now.machine.harts }
-        ensures value { InLeg self.now (λ leg. result.now ≡ inputs_at (inputs_of leg.inputs hart) (counts_of self.now.now.machine hart)) }
+        requires { hart < length self.now.stands.machine.harts }
+        ensures value { InLeg self.now (λ leg. result.now ≡ inputs_at (inputs_of leg.inputs hart) (counts_of self.now.stands.machine hart)) }
         ensures few { length result.now ≤ INPUT_LIMIT }
     {
         match self.leg() {
@@ -287,10 +287,10 @@ impl Timeline {
 
     /// What the step that comes next uses of RAM, beside the word that it fetches.
     pub fn access(&self) -> Access
-        ensures uses { (h : HartRecord) (access : access_of_specs) → IsStepFrom self.now.legs self.now.now h access → result ≡ access }
+        ensures uses { (h : HartRecord) (access : access_of_specs) → IsStepFrom self.now.legs self.now.stands h access → result ≡ access }
     {
         match self.next() {
-            Some(hart) => access_of(&self.now.machine, hart, self.inputs(hart)),
+            Some(hart) => access_of(&self.stands.machine, hart, self.inputs(hart)),
             None => Access::Nothing,
         }
     }
@@ -299,9 +299,9 @@ impl Timeline {
     fn keep(&mut self) -> Result<(), Memory>
         ensures { self.new ≡ self.old }
     {
-        if self.now.moment >= self.due && self.kept.len() < KEPT_LIMIT {
-            self.kept.push(shared(&mut self.now)?)?;
-            self.due = self.now.moment.saturating_add(self.stretch);
+        if self.stands.moment >= self.due && self.kept.len() < KEPT_LIMIT {
+            self.kept.push(shared(&mut self.stands)?)?;
+            self.due = self.stands.moment.saturating_add(self.stretch);
         }
         Ok(())
     }
@@ -309,24 +309,24 @@ impl Timeline {
     /// Takes the step that comes next, of this hart, and turns.
     #[inline(always)]
     fn take(&mut self, hart: Hart) -> Result<(), Memory>
-        requires place { self.old.now.place < length self.old.legs }
-        requires there { hart < length self.old.now.machine.harts }
-        requires next { InLeg self.old (λ leg. IsNext leg self.old.now.machine hart) }
+        requires place { self.old.stands.place < length self.old.legs }
+        requires there { hart < length self.old.stands.machine.harts }
+        requires next { InLeg self.old (λ leg. IsNext leg self.old.stands.machine hart) }
         ensures taken { OnOk result (HasGoneOn self.old self.new 1) }
         ensures kept { OnErr result (self.new ≡ self.old) }
     {
         // proof: the line has room for the step.
         let _last = self.last;
         let legs = self.plan.legs();
-        let leg = &legs[self.now.leg];
+        let leg = &legs[self.stands.leg];
         take_step(
             leg,
-            &mut self.now,
+            &mut self.stands,
             &mut self.stops,
             hart,
             &mut *self.decoder,
         )?;
-        turn(legs, &mut self.now, &mut self.stops);
+        turn(legs, &mut self.stands, &mut self.stops);
         Ok(())
     }
 
@@ -335,10 +335,10 @@ impl Timeline {
     pub fn forward(&mut self) -> Result<bool, ReplayFault>
         ensures went { IfOk result (λ went. went ≡ true → HasGoneOn self.old self.new 1) }
         ensures end { IfOk result (λ went. went ≡ false → (self.new ≡ self.old) × IsAtEnd self.old) }
-        ensures all { IfOk result (λ went. went ≡ false → self.old.now.moment ≡ steps_of_legs self.old.legs) }
+        ensures all { IfOk result (λ went. went ≡ false → self.old.stands.moment ≡ steps_of_legs self.old.legs) }
         ensures kept { OnErr result (self.new ≡ self.old) }
-        ensures fault { IfErr result (λ f. InLeg self.old (λ leg. ComesShort self.old.now.machine leg.ends f)) }
-        ensures stuck { IfErr result (λ f. f ≢ fault.Memory → InLeg self.old (λ leg. NoneMayGo leg self.old.now.machine)) }
+        ensures fault { IfErr result (λ f. InLeg self.old (λ leg. ComesShort self.old.stands.machine leg.ends f)) }
+        ensures stuck { IfErr result (λ f. f ≢ fault.Memory → InLeg self.old (λ leg. NoneMayGo leg self.old.stands.machine)) }
     {
         let Some(hart) = self.next() else {
             return self.end();
@@ -359,14 +359,14 @@ impl Timeline {
     /// False, where the line is at its end; else why nobody can go on.
     fn end(&self) -> Result<bool, ReplayFault>
         ensures end { IfOk result (λ went. (went ≡ false) × IsAtEnd self.now) }
-        ensures all { IfOk result (λ went. self.now.now.moment ≡ steps_of_legs self.now.legs) }
-        ensures fault { IfErr result (λ f. InLeg self.now (λ leg. ComesShort self.now.now.machine leg.ends f)) }
+        ensures all { IfOk result (λ went. self.now.stands.moment ≡ steps_of_legs self.now.legs) }
+        ensures fault { IfErr result (λ f. InLeg self.now (λ leg. ComesShort self.now.stands.machine leg.ends f)) }
         ensures memory { IfErr result (λ f. f ≢ fault.Memory) }
     {
         let Some(leg) = self.leg() else {
             return Ok(false);
         };
-        match stuck_at(leg, &self.now.machine) {
+        match stuck_at(leg, &self.stands.machine) {
             Some(fault) => Err(fault),
             None => Ok(false),
         }
@@ -375,25 +375,25 @@ impl Timeline {
     /// Goes to a snapshot of the line.
     fn jump(&mut self, there: Snapshot)
         requires { OnLine self.old (standing_of there) }
-        ensures line { self.new ≡ record self.old { now = self.new.now } }
-        ensures moment { self.new.now.moment ≡ there.moment }
-        ensures machine { self.new.now.machine ≡ machine_of there.machine }
+        ensures line { self.new ≡ record self.old { stands = self.new.stands } }
+        ensures moment { self.new.stands.moment ≡ there.moment }
+        ensures machine { self.new.stands.machine ≡ machine_of there.machine }
     {
         let mut now = there;
         let mut stops = no_stops();
         turn(self.plan.legs(), &mut now, &mut stops);
-        self.now = now;
+        self.stands = now;
         self.stops = stops;
     }
 
     /// Goes to the last machine that was kept at this moment or before, where the line does not stand between the two.
     pub(crate) fn near(&mut self, moment: u64) -> Result<(), Memory>
-        ensures line { self.new ≡ record self.old { now = self.new.now } }
-        ensures before { OnOk result (self.new.now.moment ≤ moment) }
+        ensures line { self.new ≡ record self.old { stands = self.new.stands } }
+        ensures before { OnOk result (self.new.stands.moment ≤ moment) }
         ensures kept { OnErr result (self.new ≡ self.old) }
     {
         let there = nearest(&self.first, &self.kept, moment);
-        if moment < self.now.moment || self.now.moment < there.moment {
+        if moment < self.stands.moment || self.stands.moment < there.moment {
             let now = copied(there)?;
             self.jump(now);
         }
@@ -402,12 +402,12 @@ impl Timeline {
 
     /// Goes to the last machine that was kept at which the hart has fewer steps, where there is one; else to the line's beginning.
     pub(crate) fn near_count(&mut self, hart: Hart, count: Count) -> Result<(), Memory>
-        ensures line { self.new ≡ record self.old { now = self.new.now } }
-        ensures below { OnOk result ((self.new.now.moment ≡ 0) ⊎ (counts_of self.new.now.machine hart < count)) }
+        ensures line { self.new ≡ record self.old { stands = self.new.stands } }
+        ensures below { OnOk result ((self.new.stands.moment ≡ 0) ⊎ (counts_of self.new.stands.machine hart < count)) }
         ensures kept { OnErr result (self.new ≡ self.old) }
     {
         let there = last_below(&self.first, &self.kept, hart, count);
-        if count <= self.now.machine.count_of(hart) || self.now.moment < there.moment {
+        if count <= self.stands.machine.count_of(hart) || self.stands.moment < there.moment {
             let now = copied(there)?;
             self.jump(now);
         }

@@ -18,8 +18,8 @@ impl Timeline {
     /// Goes to a moment.
     pub fn go_to(&mut self, moment: u64) -> Result<(), ReplayFault>
         requires { moment ≤ steps_of self.old.legs }
-        ensures line { self.new ≡ record self.old { now = self.new.now } }
-        ensures there { OnOk result (self.new.now.moment ≡ moment) }
+        ensures line { self.new ≡ record self.old { stands = self.new.stands } }
+        ensures there { OnOk result (self.new.stands.moment ≡ moment) }
     {
         self.near(moment)?;
         while self.now() < moment {
@@ -30,9 +30,9 @@ impl Timeline {
 
     /// Goes to the first moment at which the hart has so many steps. False, and nothing is changed, where the line has none.
     pub fn go_to_count(&mut self, hart: Hart, count: Count) -> Result<bool, ReplayFault>
-        ensures line { self.new ≡ record self.old { now = self.new.now } }
-        ensures there { IfOk result (λ went. went ≡ true → counts_of self.new.now.machine hart ≡ count) }
-        ensures first { IfOk result (λ went. went ≡ true → (moment : ℕ) (m : MachineState) → moment < self.new.now.moment →
+        ensures line { self.new ≡ record self.old { stands = self.new.stands } }
+        ensures there { IfOk result (λ went. went ≡ true → counts_of self.new.stands.machine hart ≡ count) }
+        ensures first { IfOk result (λ went. went ≡ true → (moment : ℕ) (m : MachineState) → moment < self.new.stands.moment →
             IsAt self.new.legs self.new.start moment m → counts_of m hart < count) }
         ensures none { IfOk result (λ went. went ≡ false → (self.new ≡ self.old) × ((moment : ℕ) (m : MachineState) →
             IsAt self.old.legs self.old.start moment m → counts_of m hart < count)) }
@@ -49,23 +49,23 @@ impl Timeline {
 
     /// The first point that is where the step that comes next is.
     fn broken(&self, points: &[Point]) -> Option<usize>
-        ensures some { IfSome result (IsOne BreaksAt points.now self.now self.now.now.moment) }
-        ensures none { IfNone result (NoneFrom BreaksAt points.now self.now self.now.now.moment (self.now.now.moment + 1)) }
+        ensures some { IfSome result (IsOne BreaksAt points.now self.now self.now.stands.moment) }
+        ensures none { IfNone result (NoneFrom BreaksAt points.now self.now self.now.stands.moment (self.now.stands.moment + 1)) }
     {
         first_break(points, self.hart(self.next()?).pc())
     }
 
     /// The first point that watches what the step that comes next uses.
     fn watched(&self, points: &[Point]) -> Option<usize>
-        ensures some { IfSome result (IsOne WatchesAt points.now self.now self.now.now.moment) }
-        ensures none { IfNone result (NoneFrom WatchesAt points.now self.now self.now.now.moment (self.now.now.moment + 1)) }
+        ensures some { IfSome result (IsOne WatchesAt points.now self.now self.now.stands.moment) }
+        ensures none { IfNone result (NoneFrom WatchesAt points.now self.now self.now.stands.moment (self.now.stands.moment + 1)) }
     {
         first_watch(points, self.access())
     }
 
     /// Goes on to the first moment at which a point holds, or to the end.
     pub fn until(&mut self, points: &[Point]) -> Result<Stop, ReplayFault>
-        ensures line { self.new ≡ record self.old { now = self.new.now } }
+        ensures line { self.new ≡ record self.old { stands = self.new.stands } }
         ensures stopped { IfOk result (HasStopped points.now self.old self.new) }
     {
         loop {
@@ -84,8 +84,8 @@ impl Timeline {
 
     /// The first point at which the step that comes next is, or that watches it.
     fn hit(&self, points: &[Point]) -> Option<usize>
-        ensures some { IfSome result (IsOne HitsAt points.now self.now self.now.now.moment) }
-        ensures none { IfNone result (NoneFrom HitsAt points.now self.now self.now.now.moment (self.now.now.moment + 1)) }
+        ensures some { IfSome result (IsOne HitsAt points.now self.now self.now.stands.moment) }
+        ensures none { IfNone result (NoneFrom HitsAt points.now self.now self.now.stands.moment (self.now.stands.moment + 1)) }
     {
         match self.broken(points) {
             Some(number) => Some(number),
@@ -96,7 +96,7 @@ impl Timeline {
     /// Goes on to a moment. Of the moments on the way the last one whose step hits a point, and which point.
     fn last_hit(&mut self, points: &[Point], end: u64) -> Result<Option<(u64, usize)>, ReplayFault>
         requires { end ≤ steps_of self.old.legs }
-        ensures line { self.new ≡ record self.old { now = self.new.now } }
+        ensures line { self.new ≡ record self.old { stands = self.new.stands } }
         ensures last { IfOk result (LastHit points.now self.old end) }
     {
         let mut last = None;
@@ -111,7 +111,7 @@ impl Timeline {
 
     /// Goes back to the last moment whose step is at a breakpoint or is watched, or to the beginning.
     pub fn back_until(&mut self, points: &[Point]) -> Result<Stop, ReplayFault>
-        ensures line { self.new ≡ record self.old { now = self.new.now } }
+        ensures line { self.new ≡ record self.old { stands = self.new.stands } }
         ensures stopped { IfOk result (HasStoppedBack points.now self.old self.new) }
     {
         let mut end = self.now();

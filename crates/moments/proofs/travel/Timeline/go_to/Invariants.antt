@@ -5,9 +5,9 @@ use Rattle.moments.proofs.travel.Timeline.go_to.Given as goal
 abbrev pub invariant-loop-self : goal.invariant-loop-self
 invariant-loop-self l =
     record {
-      line : l.self ≡ record l.fn.self { now = l.self.now };
-      within : l.self.now.moment ≤ l.moment;
+      line : l.self ≡ record l.fn.self { stands = l.self.stands };
+      within : l.self.stands.moment ≤ l.moment;
     }
 
 abbrev pub decreases-loop-self : goal.decreases-loop-self
-decreases-loop-self l = l.moment - l.self.now.moment
+decreases-loop-self l = l.moment - l.self.stands.moment
