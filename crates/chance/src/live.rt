@@ -8,11 +8,13 @@ use fenced_live::GivenFault;
 use ft_types::{HART_LIMIT, Hart, KEEPER_LIMIT, Keeper, Memory, Quorum, Term};
 use go_live::LiveFault;
 use guest_image::{Image, Machine};
-use leading::{LeadFault, Leader, Spacing};
+use hart_replay::ReplayFault;
+use leading::{HandedFault, LeadFault, Leader, Spacing};
 use live_world::{
     ClientEvent, EventFault, HandAct, KeeperEvent, LiveEvent, LiveWorld, PrimaryEvent,
 };
 use output_gate::Output;
+use stations::{FilesFault, LogFault};
 use std::alloc::Global;
 use wire::{Answer, Request};
 
@@ -69,15 +71,43 @@ fn is_contradicted(one: &Answer, told: &[Answer]) -> bool {
     false
 }
 
+/// Whether memory was refused to what has the fault.
+fn is_want(fault: EventFault) -> bool {
+    match fault {
+        EventFault::Memory
+        | EventFault::Files(FilesFault::Memory)
+        | EventFault::Log(LogFault::Files(FilesFault::Memory))
+        | EventFault::Handed(HandedFault::Memory) => true,
+        EventFault::Lead(LeadFault::NotLive(GivenFault::Live(fault))) => {
+            fault == LiveFault::Memory || fault == LiveFault::Replay(ReplayFault::Memory)
+        }
+        _ => false,
+    }
+}
+
+/// Whether the grant had stores of too few keepers.
+fn lacks_stores(fault: EventFault) -> bool {
+    match fault {
+        EventFault::Lead(LeadFault::NotLive(GivenFault::Live(fault))) => {
+            fault == LiveFault::TooFewStores
+        }
+        _ => false,
+    }
+}
+
+/// What comes of a grant that is refused so.
+fn outcome_of_fault(fault: EventFault) -> Result<Outcome, Memory> {
+    if is_want(fault) {
+        return Err(Memory);
+    }
+    if lacks_stores(fault) { Ok(Outcome::TooFewStores) } else { Ok(Outcome::Refused) }
+}
+
 /// What comes of a grant that is answered so.
 fn outcome_of(answer: Result<(), EventFault>) -> Result<Outcome, Memory> {
     match answer {
         Ok(()) => Ok(Outcome::Done),
-        Err(EventFault::Memory) => Err(Memory),
-        Err(EventFault::Lead(LeadFault::NotLive(GivenFault::Live(LiveFault::TooFewStores)))) => {
-            Ok(Outcome::TooFewStores)
-        }
-        Err(_) => Ok(Outcome::Refused),
+        Err(fault) => outcome_of_fault(fault),
     }
 }
 
@@ -105,8 +135,9 @@ impl Live {
     pub fn happens(&mut self, alloc: Global, event: LiveEvent) -> Result<bool, Memory> {
         match self.world.apply(alloc, event) {
             Ok(()) => Ok(true),
-            Err(EventFault::Memory) => Err(Memory),
-            Err(_) => Ok(false),
+            Err(fault) => {
+                if is_want(fault) { Err(Memory) } else { Ok(false) }
+            }
         }
     }
 
