@@ -17,6 +17,8 @@ fn raise_for(leg: &PlannedLeg, cut: &mut Counts, hart: Hart) -> bool
     requires within { IsWithin (count_at cut.old) (count_at leg.now.ends) }
     ensures raises { RaisesFor leg.now hart cut.old result cut.new }
 {
+    // proof: the edges keep the rules of a log.
+    let _rules = leg.edges.next(hart, 0);
     let end = cut.get(hart);
     let mut has_raised = false;
     for edge in leg.edges.of_hart(hart) {
