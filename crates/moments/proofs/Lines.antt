@@ -9,12 +9,12 @@ use Rattle.hart_lease.specs.Runs.{counts_of}
 use Rattle.hart_replay.specs.declared.plans.PlannedLeg.{PlannedLeg}
 use Rattle.hart_replay.proofs.Fronts.{there}
 use Rattle.moments.specs.declared.snapshots.Snapshot.{Snapshot}
-use Rattle.moments.specs.Line.{LineView, InLeg, IsAt, IsNext, NoneMayGo, Steps, Standing, standing_at, stepped, Leads, ends_of, steps_of}
+use Rattle.moments.specs.Line.{LineView, InLeg, IsAt, IsNext, NoneMayGo, Steps, Standing, standing_at, stepped, Leads, HasGoneOn, ends_of, steps_of}
 use Rattle.moments.specs.Line.{Begins, StepsOn}
 use Rattle.moments.specs.machinery.Machines.{standing_of}
 use Rattle.moments.specs.machinery.Kept.{IsBegun, Stands, IsTimeline, AreQuiet, QuietAt, IsTurned, OnLine}
 use Rattle.moments.proofs.Moves.{one_leg}
-use Rattle.moments.proofs.Keeping.{moment_within, leg_there}
+use Rattle.moments.proofs.Keeping.{moment_within, step_room, leg_there}
 use Rattle.moments.proofs.Standings.{last_is}
 use Rattle.moments.proofs.Rises.{counts_most, counts_all}
 
@@ -126,6 +126,54 @@ module _ (guest : GuestParts) (legs : List PlannedLeg) (first now : Standing) (s
         turned = turned;
         quiet = quiet;
       }
+
+  -- what was changed and is the same
+  pub same_timeline : (next : Standing) (marks : List ℕ) → next ≡ now → marks ≡ stops → IsTimeline guest legs first next snapshots marks
+  same_timeline next marks same quiet =
+      subst (λ (s : Standing). IsTimeline guest legs first s snapshots marks) (sym same)
+      (subst (λ (m : List ℕ). IsTimeline guest legs first now snapshots m) (sym quiet) is)
+
+  pub same_line : (v : LineView) → line_of guest legs first now ≡ v → (next : Standing) → next ≡ now → line_of guest legs first next ≡ v
+  same_line v view next same = ap (line_of guest legs first) same ∙ view
+
+  -- a snapshot more is kept of where it stands
+  pub kept_timeline : (kept : List Snapshot) (s : Snapshot) (next : Standing) → snapshots ≡ map standing_of kept → standing_of s ≡ now → next ≡ now →
+      IsTimeline guest legs first next (map standing_of (kept ++ s ∷ [])) stops
+  kept_timeline kept s next are same here =
+      subst (λ (t : Standing). IsTimeline guest legs first t (map standing_of (kept ++ s ∷ [])) stops) (sym here)
+      (record {
+        begun = is.begun;
+        stands = is.stands;
+        kept =
+            kept_more legs first kept s (subst (λ (l : List Standing). AllByRecursion (Stands legs first) l) are is.kept)
+            (subst (λ (t : Standing). Stands legs first t) (sym same) is.stands);
+        turned = is.turned;
+        quiet = is.quiet;
+      })
+
+  -- the hart that comes next, as contracts say it
+  pub next_inside : (v : LineView) → line_of guest legs first now ≡ v → (leg : PlannedLeg) (hart : ℕ) → slice_get legs now.place ≡ Some leg →
+      InLeg v (λ l. IsNext l v.stands.machine hart) → IsNext leg now.machine hart
+  next_inside v view leg hart at next =
+      subst (λ (u : LineView). InLeg u (λ l. IsNext l u.stands.machine hart)) (sym view) next leg at
+
+  pub room_inside : (leg : PlannedLeg) (hart last : ℕ) → slice_get legs now.place ≡ Some leg → IsNext leg now.machine hart → last ≡ steps_of legs →
+      now.moment < last
+  room_inside leg hart last at next all =
+      let room = step_room guest legs first is.begun now leg hart is.stands at next in omega (arith, room, all)
+
+  -- one step further on
+  pub gone_line : (v : LineView) → line_of guest legs first now ≡ v → (next : Standing) → next.moment ≡ now.moment + 1 →
+      HasGoneOn v (line_of guest legs first next) 1
+  gone_line v view next one =
+      (
+        ap (λ (u : LineView). record u { stands = next }) view,
+        one ∙ ap (λ (u : LineView). u.stands.moment + 1) view,
+      )
+
+  -- elsewhere on its line
+  pub moved_line : (v : LineView) → line_of guest legs first now ≡ v → (next : Standing) → line_of guest legs first next ≡ record v { stands = next }
+  moved_line v view next = ap (λ (u : LineView). record u { stands = next }) view
 
   begun_there : IsBegun guest legs (standing_at first.machine)
   begun_there = subst (λ (s : Standing). IsBegun guest legs s) is.begun.is is.begun

@@ -20,7 +20,8 @@ use Rattle.log_audit.specs.machinery.Covered.{IsQuietTo}
 use Rattle.hart_replay.specs.Leading.{AreAtEnds}
 use Rattle.moments.specs.Line.{MayGo, IsNext, Steps, turn_in, Standing, Leads}
 use Rattle.moments.specs.Line.{TurnsOn}
-use Rattle.moments.specs.machinery.Kept.{AreQuiet}
+use Rattle.moments.specs.machinery.Kept.{AreQuiet, IsTurned}
+use Rattle.moments.proofs.Moves.{one_leg}
 use Rattle.moments.proofs.Standings.{counts_step}
 
 -- no hart is known to be quiet
@@ -45,6 +46,15 @@ pub turn_more : (legs : List PlannedLeg) (first t u : Standing) (leg : PlannedLe
 turn_more legs first t u leg at ends place moment machine so_far s leads =
     subst (λ (x : Standing). Leads legs s x) (λ i. record { place = sym place i; moment = sym moment i; machine = sym machine i })
     (TurnsOn leg (so_far s leads) at ends)
+
+-- a leg that was not led to its end, and the last one
+pub not_led : (legs : List PlannedLeg) (t : Standing) (leg : PlannedLeg) → slice_get legs t.place ≡ Some leg → (AreAtEnds t.machine leg.ends → ⊥) →
+    IsTurned legs t
+not_led legs t leg at none other found ends =
+    absurd (none (subst (λ (l : PlannedLeg). AreAtEnds t.machine l.ends) (sym (one_leg legs t.place leg other at found)) ends))
+
+pub last_turned : (legs : List PlannedLeg) (t : Standing) → length legs - 1 ≤ t.place → IsTurned legs t
+last_turned legs t le leg at ends = omega (arith, le)
 
 -- a hart that comes next runs, and is below its end
 pub next_runs : (leg : PlannedLeg) (m : MachineState) (hart limit : ℕ) → IsNext leg m hart → count_at leg.ends hart < limit → (h : Hart) →
