@@ -9,6 +9,7 @@ pub mod Passing
 pub mod Keeping
 pub mod Lines
 pub mod Raised
+pub mod LegsWith
 pub mod Cutting
 pub mod Histories
 pub mod Hits

@@ -14,7 +14,7 @@ use Rattle.edge_log.proofs.Logs.{in_row, of_row, to_edges}
 use Rattle.hart_replay.specs.declared.plans.PlannedLeg.{PlannedLeg}
 use Rattle.hart_replay.specs.Plans.{IsLeg, log_of}
 use Rattle.moments.proofs.Sums.{upto, upto_sum, upto_within}
-use Rattle.moments.specs.machinery.Raising.{IsRaised, AreMetOf, RaisesFor, Raises, IsLeastAbove}
+use Rattle.moments.specs.machinery.Raising.{IsRaised, IsRaisedBy, AreMetOf, RaisesFor, Raises, IsLeastAbove}
 
 -- a greater count in place of one adds to the sum
 pub sum_put : (xs : List ℕ) (i x : ℕ) → i < length xs → count_at xs i < x → sum xs < sum (set xs i x)
@@ -79,29 +79,49 @@ RaisedSo leg end old done true new = IsRaised leg old new × (sum old < sum new)
 RaisedSo leg end old done false new = (new ≡ old) × All (λ e. e.at < end → e.after ≤ count_at old e.other) done
 
 module _ (leg : PlannedLeg) (end : ℕ) (old : List ℕ) (done : List Edge) where
-  pub so_raised : (b : Bool) (mid : List ℕ) (e : Edge) (more : List Edge) → RaisedSo leg end old done b mid → end ≡ count_at old e.hart →
-      Contains (log_of leg).edges (edge_as e) → e.at < end → count_at mid e.other < e.after → e.other < length mid →
-      RaisedSo leg end old more true (set mid e.other e.after)
-  so_raised true mid e more so_far is has below asks there =
-      let adds = sum_put mid e.other e.after there asks in
+  so_raised : (b : Bool) (mid new : List ℕ) (e : Edge) (more : List Edge) → RaisedSo leg end old done b mid → end ≡ count_at old e.hart →
+      Contains (log_of leg).edges (edge_as e) → e.other < length mid → IsRaisedBy e end mid new → RaisedSo leg end old more true new
+  so_raised true mid new e more so_far is has there by =
+      let below = by.below in
+      let adds = sum_put mid e.other e.after there by.asks in
       let before = so_far.1 in
-      (raised_one leg old mid e so_far.0 has (omega (arith, below, is)) asks there, omega (arith, adds, before))
-  so_raised false mid e more so_far is has below asks there =
-      let adds = sum_put mid e.other e.after there asks in
-      let same : sum mid ≡ sum old = ap sum so_far.0 in
+      let same : sum new ≡ sum (set mid e.other e.after) = ap sum by.raised in
       (
-        raised_one leg old mid e (subst (λ (m : List ℕ). IsRaised leg old m) (sym so_far.0) (raised_none leg old)) has (omega (arith, below, is)) asks there,
-        omega (arith, adds, same),
+        subst (λ (m : List ℕ). IsRaised leg old m) (sym by.raised) (raised_one leg old mid e so_far.0 has (omega (arith, below, is)) by.asks there),
+        omega (arith, adds, before, same),
+      )
+  so_raised false mid new e more so_far is has there by =
+      let below = by.below in
+      let adds = sum_put mid e.other e.after there by.asks in
+      let before : sum mid ≡ sum old = ap sum so_far.0 in
+      let same : sum new ≡ sum (set mid e.other e.after) = ap sum by.raised in
+      let none = subst (λ (m : List ℕ). IsRaised leg old m) (sym so_far.0) (raised_none leg old) in
+      (
+        subst (λ (m : List ℕ). IsRaised leg old m) (sym by.raised) (raised_one leg old mid e none has (omega (arith, below, is)) by.asks there),
+        omega (arith, adds, before, same),
       )
 
-  pub so_kept : (b : Bool) (mid : List ℕ) (e : Edge) → RaisedSo leg end old done b mid → (e.at < end → e.after ≤ count_at mid e.other) →
+  so_kept : (b : Bool) (mid : List ℕ) (e : Edge) → RaisedSo leg end old done b mid → (e.at < end → e.after ≤ count_at mid e.other) →
       RaisedSo leg end old (done ++ e ∷ []) b mid
   so_kept true mid e so_far met = so_far
   so_kept false mid e so_far met =
       (so_far.0, all_more (subst (λ (m : List ℕ). e.at < end → e.after ≤ count_at m e.other) so_far.0 met))
     where
       all_more : (e.at < end → e.after ≤ count_at old e.other) → All (λ x. x.at < end → x.after ≤ count_at old x.other) (done ++ e ∷ [])
-      all_more one = All-append (λ x. x.at < end → x.after ≤ count_at old x.other) done (e ∷ []) so_far.1 (All-from_recursion (λ x. x.at < end → x.after ≤ count_at old x.other) (e ∷ []) (one, tt))
+      all_more one =
+          All-append (λ x. x.at < end → x.after ≤ count_at old x.other) done (e ∷ []) so_far.1
+          (All-from_recursion (λ x. x.at < end → x.after ≤ count_at old x.other) (e ∷ []) (one, tt))
+
+  -- one edge more
+  pub so_next : (b raised : Bool) (mid new : List ℕ) (e : Edge) → RaisedSo leg end old done b mid → end ≡ count_at old e.hart →
+      Contains (log_of leg).edges (edge_as e) → e.other < length mid → (raised ≡ true → IsRaisedBy e end mid new) → (raised ≡ false → new ≡ mid) →
+      (raised ≡ false → e.at < end → e.after ≤ count_at mid e.other) → RaisedSo leg end old (done ++ e ∷ []) (b || raised) new
+  so_next true true mid new e so_far is has there by kept met = so_raised true mid new e (done ++ e ∷ []) so_far is has there (by refl)
+  so_next false true mid new e so_far is has there by kept met = so_raised false mid new e (done ++ e ∷ []) so_far is has there (by refl)
+  so_next true false mid new e so_far is has there by kept met =
+      subst (λ (m : List ℕ). RaisedSo leg end old (done ++ e ∷ []) true m) (sym (kept refl)) (so_kept true mid e so_far (met refl))
+  so_next false false mid new e so_far is has there by kept met =
+      subst (λ (m : List ℕ). RaisedSo leg end old (done ++ e ∷ []) false m) (sym (kept refl)) (so_kept false mid e so_far (met refl))
 
 -- once all edges of the hart were looked at
 pub so_all : (leg : PlannedLeg) (hart end : ℕ) (old : List ℕ) (b : Bool) (new : List ℕ) → IsLog leg.edges.start leg.edges.rows → end ≡ count_at old hart →

@@ -6,6 +6,7 @@ use Rattle.moments.proofs.Keeping.{none_all}
 use Rattle.moments.proofs.Hits.{no_step}
 use Rattle.moments.proofs.Lines.{gone_on}
 use Rattle.moments.proofs.Raised.{way_ends}
+use Rattle.moments.proofs.LegsWith.{none_of_legs}
 use Rattle.moments.proofs.Rises.{went_on}
 use Rattle.moments.proofs.Stopping.{stops_back}
 use Rattle.moments.proofs.Interrupts.{word_read}

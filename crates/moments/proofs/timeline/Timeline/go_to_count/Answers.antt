@@ -2,7 +2,7 @@ use Rattle.std.proofs.Common.{◌≡◌, true, arith, refl}
 use Rattle.moments.specs.Line.{HasGoneOn}
 use Rattle.moments.proofs.Stopping.{line_on, line_kept, same_steps}
 use Rattle.moments.proofs.Rises.{fewer_first, fewer_next, count_there, went_on}
-use Rattle.moments.proofs.travel.Timeline.go_to_count.Goals as goal
+use Rattle.moments.proofs.timeline.Timeline.go_to_count.Goals as goal
 
 pub loop-self-init : goal.loop-self-init
 loop-self-init c =

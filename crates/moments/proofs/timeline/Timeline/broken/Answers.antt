@@ -1,5 +1,5 @@
 use Rattle.moments.proofs.Hits.{none_breaks, broken_some, broken_none}
-use Rattle.moments.proofs.travel.Timeline.broken.Goals as goal
+use Rattle.moments.proofs.timeline.Timeline.broken.Goals as goal
 
 pub returns-in-Some : goal.returns-in-Some
 returns-in-Some c =

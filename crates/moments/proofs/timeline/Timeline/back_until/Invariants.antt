@@ -1,5 +1,5 @@
 use Rattle.moments.proofs.Stopping.{IsClearFrom}
-use Rattle.moments.proofs.travel.Timeline.back_until.Given as goal
+use Rattle.moments.proofs.timeline.Timeline.back_until.Given as goal
 
 abbrev pub invariant-loop-end : goal.invariant-loop-end
 invariant-loop-end l = IsClearFrom l.points l.fn.self l.self l.end

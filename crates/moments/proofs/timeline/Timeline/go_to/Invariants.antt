@@ -1,6 +1,6 @@
 use Rattle.std.proofs.Common.{◌≤◌, ◌-◌}
 use Rattle.moments.proofs.Stopping.{IsElsewhere}
-use Rattle.moments.proofs.travel.Timeline.go_to.Given as goal
+use Rattle.moments.proofs.timeline.Timeline.go_to.Given as goal
 
 abbrev pub invariant-loop-self : goal.invariant-loop-self
 invariant-loop-self l =

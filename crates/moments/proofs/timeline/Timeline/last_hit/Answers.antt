@@ -1,7 +1,7 @@
 use Rattle.std.proofs.Common.{arith, refl}
 use Rattle.moments.specs.Points.{HitsAt}
 use Rattle.moments.proofs.Stopping.{line_on, line_kept, line_forward, moment_forward, same_steps, none_between, last_next}
-use Rattle.moments.proofs.travel.Timeline.last_hit.Goals as goal
+use Rattle.moments.proofs.timeline.Timeline.last_hit.Goals as goal
 
 pub loop-last-init : goal.loop-last-init
 loop-last-init c =

@@ -1,7 +1,7 @@
 use Rattle.std.proofs.Common.{◌≤◌, ◌-◌}
 use Rattle.moments.specs.Stops.{LastHit}
 use Rattle.moments.proofs.Stopping.{IsElsewhere}
-use Rattle.moments.proofs.travel.Timeline.last_hit.Given as goal
+use Rattle.moments.proofs.timeline.Timeline.last_hit.Given as goal
 
 abbrev pub invariant-loop-last : goal.invariant-loop-last
 invariant-loop-last l =

@@ -3,7 +3,7 @@ use Rattle.hart_lease.specs.Runs.{counts_of}
 use Rattle.moments.specs.Line.{steps_of}
 use Rattle.moments.proofs.Stopping.{IsElsewhere}
 use Rattle.moments.proofs.Rises.{AreFewer, LeadsThere}
-use Rattle.moments.proofs.travel.Timeline.go_to_count.Given as goal
+use Rattle.moments.proofs.timeline.Timeline.go_to_count.Given as goal
 
 abbrev pub invariant-loop-self : goal.invariant-loop-self
 invariant-loop-self l =

@@ -1,5 +1,5 @@
 use Rattle.moments.proofs.Hits.{watched_some, watched_none}
-use Rattle.moments.proofs.travel.Timeline.watched.Goals as goal
+use Rattle.moments.proofs.timeline.Timeline.watched.Goals as goal
 
 pub returns-clause-some : goal.returns-clause-some
 returns-clause-some c =
