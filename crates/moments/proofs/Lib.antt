@@ -16,3 +16,4 @@ pub mod Hits
 pub mod Stopping
 pub mod Rises
 pub mod Interrupts
+pub mod Telling

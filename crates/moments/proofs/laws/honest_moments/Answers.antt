@@ -17,6 +17,7 @@ use Rattle.moments.specs.Line.{standing_at}
 use Rattle.moments.proofs.Moves.{one_machine}
 use Rattle.moments.proofs.Cutting.{counts_are_cuts}
 use Rattle.moments.proofs.Histories.{ends_are_outcomes}
+use Rattle.moments.proofs.Telling.{moments_tell}
 use Rattle.moments.proofs.laws.honest_moments.Goals as goal
 
 pub returns-clause-one : goal.returns-clause-one
@@ -34,3 +35,6 @@ pub returns-clause-tell : goal.returns-clause-tell
 returns-clause-tell c image legs leg t on last ends history store position rules honest planned =
     at_position image legs history store position rules (honest_in image history store honest) planned t.machine
     (ends_are_outcomes image legs leg t on last ends)
+
+pub returns-clause-moments : goal.returns-clause-moments
+returns-clause-moments c = moments_tell
