@@ -165,11 +165,10 @@ module _ (guest : GuestParts) (legs : List PlannedLeg) (first now : Standing) (s
   -- one step further on
   pub gone_line : (v : LineView) → line_of guest legs first now ≡ v → (next : Standing) → next.moment ≡ now.moment + 1 →
       HasGoneOn v (line_of guest legs first next) 1
-  gone_line v view next one =
-      (
-        ap (λ (u : LineView). record u { stands = next }) view,
-        one ∙ ap (λ (u : LineView). u.stands.moment + 1) view,
-      )
+  gone_line v view next one = (
+    ap (λ (u : LineView). record u { stands = next }) view,
+    one ∙ ap (λ (u : LineView). u.stands.moment + 1) view,
+  )
 
   -- elsewhere on its line
   pub moved_line : (v : LineView) → line_of guest legs first now ≡ v → (next : Standing) → line_of guest legs first next ≡ record v { stands = next }

@@ -85,8 +85,7 @@ module _ (leg : PlannedLeg) (end : ℕ) (old : List ℕ) (done : List Edge) wher
       let below = by.below in
       let adds = sum_put mid e.other e.after there by.asks in
       let before = so_far.1 in
-      let same : sum new ≡ sum (set mid e.other e.after) = ap sum by.raised in
-      (
+      let same : sum new ≡ sum (set mid e.other e.after) = ap sum by.raised in (
         subst (λ (m : List ℕ). IsRaised leg old m) (sym by.raised) (raised_one leg old mid e so_far.0 has (omega (arith, below, is)) by.asks there),
         omega (arith, adds, before, same),
       )
@@ -95,8 +94,7 @@ module _ (leg : PlannedLeg) (end : ℕ) (old : List ℕ) (done : List Edge) wher
       let adds = sum_put mid e.other e.after there by.asks in
       let before : sum mid ≡ sum old = ap sum so_far.0 in
       let same : sum new ≡ sum (set mid e.other e.after) = ap sum by.raised in
-      let none = subst (λ (m : List ℕ). IsRaised leg old m) (sym so_far.0) (raised_none leg old) in
-      (
+      let none = subst (λ (m : List ℕ). IsRaised leg old m) (sym so_far.0) (raised_none leg old) in (
         subst (λ (m : List ℕ). IsRaised leg old m) (sym by.raised) (raised_one leg old mid e none has (omega (arith, below, is)) by.asks there),
         omega (arith, adds, before, same),
       )
@@ -127,15 +125,17 @@ module _ (leg : PlannedLeg) (end : ℕ) (old : List ℕ) (done : List Edge) wher
 pub so_all : (leg : PlannedLeg) (hart end : ℕ) (old : List ℕ) (b : Bool) (new : List ℕ) → IsLog leg.edges.start leg.edges.rows → end ≡ count_at old hart →
     RaisedSo leg end old (row_of leg.edges hart) b new → RaisesFor leg hart old b new
 so_all leg hart end old true new rules is so = so
-so_all leg hart end old false new rules is so =
-    (so.0, λ e has own below.
-        let (x, stands, same) = in_row leg.edges.start leg.edges.rows rules e has in
-        let here : Contains (row_of leg.edges hart) x = subst (λ (h : ℕ). Contains (row_of leg.edges h) x) own stands in
-        let at : x.at ≡ e.step = ap (λ (y : TheoryEdge). y.step) same in
-        let asks : x.after ≡ e.count = ap (λ (y : TheoryEdge). y.count) same in
-        let of_other : count_at old x.other ≡ count_at old e.other = ap (λ (y : TheoryEdge). count_at old y.other) same in
-        let le = All-contains (λ (y : Edge). y.at < end → y.after ≤ count_at old y.other) (row_of leg.edges hart) x so.1 here (omega (arith, at, below, is)) in
-        omega (arith, le, asks, of_other))
+so_all leg hart end old false new rules is so = (
+  so.0,
+  λ e has own below.
+      let (x, stands, same) = in_row leg.edges.start leg.edges.rows rules e has in
+      let here : Contains (row_of leg.edges hart) x = subst (λ (h : ℕ). Contains (row_of leg.edges h) x) own stands in
+      let at : x.at ≡ e.step = ap (λ (y : TheoryEdge). y.step) same in
+      let asks : x.after ≡ e.count = ap (λ (y : TheoryEdge). y.count) same in
+      let of_other : count_at old x.other ≡ count_at old e.other = ap (λ (y : TheoryEdge). count_at old y.other) same in
+      let le = All-contains (λ (y : Edge). y.at < end → y.after ≤ count_at old y.other) (row_of leg.edges hart) x so.1 here (omega (arith, at, below, is)) in
+      omega (arith, le, asks, of_other),
+)
 
 -- ---- hart by hart
 
@@ -143,24 +143,24 @@ pub raises_next : (leg : PlannedLeg) (many : ℕ) (old mid new : List ℕ) (befo
     RaisesFor leg many mid raised new → Raises leg (many + 1) old (before || raised) new
 raises_next leg many old mid new true true so_far next =
     let a = so_far.1 in let b = next.1 in (raised_again leg old mid new so_far.0 next.0, omega (arith, a, b))
-raises_next leg many old mid new true false so_far next =
-    (
-      subst (λ (m : List ℕ). IsRaised leg old m) (sym next.0) so_far.0,
-      subst (λ (m : List ℕ). sum old < sum m) (sym next.0) so_far.1,
-    )
-raises_next leg many old mid new false true so_far next =
-    (
-      subst (λ (m : List ℕ). IsRaised leg m new) so_far.0 next.0,
-      subst (λ (m : List ℕ). sum m < sum new) so_far.0 next.1,
-    )
-raises_next leg many old mid new false false so_far next =
-    (next.0 ∙ so_far.0, λ hart lt.
-        elim (cases_lt hart many) [
-          | inl below ↦ so_far.1 hart below
-          | inr le ↦
-              let same : many ≡ hart = omega (arith, lt, le) in
-              subst (λ (h : ℕ). AreMetOf leg h old) same (subst (λ (m : List ℕ). AreMetOf leg many m) so_far.0 next.1)
-        ])
+raises_next leg many old mid new true false so_far next = (
+  subst (λ (m : List ℕ). IsRaised leg old m) (sym next.0) so_far.0,
+  subst (λ (m : List ℕ). sum old < sum m) (sym next.0) so_far.1,
+)
+raises_next leg many old mid new false true so_far next = (
+  subst (λ (m : List ℕ). IsRaised leg m new) so_far.0 next.0,
+  subst (λ (m : List ℕ). sum m < sum new) so_far.0 next.1,
+)
+raises_next leg many old mid new false false so_far next = (
+  next.0 ∙ so_far.0,
+  λ hart lt.
+      elim (cases_lt hart many) [
+        | inl below ↦ so_far.1 hart below
+        | inr le ↦
+            let same : many ≡ hart = omega (arith, lt, le) in
+            subst (λ (h : ℕ). AreMetOf leg h old) same (subst (λ (m : List ℕ). AreMetOf leg many m) so_far.0 next.1)
+      ],
+)
 
 -- ---- until no edge asks for more
 

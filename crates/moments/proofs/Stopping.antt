@@ -114,9 +114,12 @@ last_next points a b last None noted on le so_far some none is was =
     subst (λ (o : Option (ℕ × ℕ)). LastHit points a (b.stands.moment + 1) o) (sym was)
     (last_more points a b.stands.moment last so_far (none_hit points a b on b.stands.moment (b.stands.moment + 1) none))
 last_next points a b last (Some number) noted on le so_far some none is was =
-    subst (λ (o : Option (ℕ × ℕ)). LastHit points a (b.stands.moment + 1) o) (sym is)
-    (le, omega arith, one_hit points a b on b.stands.moment number some,
-    none_between HitsAt points a (b.stands.moment + 1) (b.stands.moment + 1) (omega arith))
+    subst (λ (o : Option (ℕ × ℕ)). LastHit points a (b.stands.moment + 1) o) (sym is) (
+      le,
+      omega arith,
+      one_hit points a b on b.stands.moment number some,
+      none_between HitsAt points a (b.stands.moment + 1) (b.stands.moment + 1) (omega arith),
+    )
 
 -- ---- forwards
 
@@ -141,13 +144,12 @@ module _ (points : List Point) (a b n : LineView) (clear : IsClear points a b) (
   is_later = let le = clear.later in let one = went.1 in omega (arith, le, one)
 
   pub stops_watched : (number : ℕ) → IsOne WatchesAt points b b.stands.moment number → HasStopped points a n (At number)
-  stops_watched number one =
-      (
-        is_later,
-        subst (λ (k : ℕ). IsOne HoldsAt points a k number) (sym went.1)
+  stops_watched number one = (
+    is_later,
+    subst (λ (k : ℕ). IsOne HoldsAt points a k number) (sym went.1)
         (watched_holds points a b.stands.moment number (one_watch points a b clear.line b.stands.moment number one)),
-        before_next,
-      )
+    before_next,
+  )
 
   pub stops_broken : (number : ℕ) → IsOne BreaksAt points n n.stands.moment number → HasStopped points a n (At number)
   stops_broken number one =
@@ -198,12 +200,11 @@ module _ (points : List Point) (a b n : LineView) (end : ℕ) (clear : IsClearFr
   pub stops_back : (c : LineView) (moment number : ℕ) → LastHit points n end (Some (moment, number)) → c.stands.moment ≡ moment →
       HasStoppedBack points a c (At number)
   stops_back c moment number (from, below, one, later) is =
-      subst (λ (k : ℕ). (k < a.stands.moment) × IsOne HitsAt points a k number × NoneFrom HitsAt points a (k + 1) a.stands.moment) (sym is)
-      (
+      subst (λ (k : ℕ). (k < a.stands.moment) × IsOne HitsAt points a k number × NoneFrom HitsAt points a (k + 1) a.stands.moment) (sym is) (
         (let before = clear.before in omega (arith, below, before)),
         one_hit points a n (line_on a b n clear.line on) moment number one,
         none_more HitsAt points a (moment + 1) end a.stands.moment
-        (none_hit points a n (line_on a b n clear.line on) (moment + 1) end later) clear.none,
+            (none_hit points a n (line_on a b n clear.line on) (moment + 1) end later) clear.none,
       )
 
 pub stops_at_begin : (points : List Point) (a b c : LineView) (end : ℕ) → IsClearFrom points a b end → end ≡ 0 → c.stands.moment ≡ 0 →

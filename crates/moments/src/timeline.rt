@@ -244,7 +244,7 @@ impl Timeline {
 
     /// How many steps a hart has taken, 0 where there is no such hart.
     #[inline(always)]
-    pub fn count_of(&self, hart: Hart) -> Count
+    pub(crate) fn count_of(&self, hart: Hart) -> Count
         ensures value { result ≡ counts_of self.now.stands.machine hart }
     {
         self.stands.machine.count_of(hart)
@@ -309,8 +309,7 @@ impl Timeline {
     pub(crate) fn stands_there(&self)
         ensures leads { Leads self.now.legs (standing_at self.now.start) self.now.stands }
         ensures turned { IsTurned self.now.legs self.now.stands }
-    {
-    }
+    {}
 
     /// What the step that comes next uses of RAM, beside the word that it fetches.
     pub fn access(&self) -> Access
