@@ -18,7 +18,7 @@ nowhere [] s t none (StepsOn {t = u} leg hart n leads at next steps) = cc
 nowhere [] s t none (TurnsOn {t = u} leg leads at ends) = cc
 nowhere (x ∷ legs) s t none leads = absurd (omega (arith, none))
 
-leg_there : (legs : List PlannedLeg) (place : ℕ) → place < length legs → (leg : PlannedLeg) × (slice_get legs place ≡ Some leg)
+pub leg_there : (legs : List PlannedLeg) (place : ℕ) → place < length legs → (leg : PlannedLeg) × (slice_get legs place ≡ Some leg)
 leg_there [] place lt = absurd (omega (arith, lt))
 leg_there (x ∷ legs) zero lt = (x, refl)
 leg_there (x ∷ legs) (suc place) lt = leg_there legs place (omega (arith, lt))

@@ -7,6 +7,13 @@ pub mod Stepping
 pub mod Turns
 pub mod Passing
 pub mod Keeping
+pub mod Lines
+pub mod Raised
+pub mod LegsWith
 pub mod Cutting
 pub mod Histories
 pub mod Hits
+pub mod Stopping
+pub mod Rises
+pub mod Interrupts
+pub mod Telling

@@ -1,5 +1,5 @@
 -- Whether a hart may go, from what its log has at its count.
-use Rattle.std.proofs.Common.{◌≡◌, inl, inr, ℕ, ◌+◌, ◌-◌, ◌<◌, ◌≤◌, ◌==◌, ◌↔◌, Bool, true, false, List, [], ◌∷◌, length, filter, All, Contains, slice_get, slice_index_or, Some, refl, ap, sym, subst, ◌∙◌, arith}
+use Rattle.std.proofs.Common.{◌≡◌, inl, inr, ℕ, ◌+◌, ◌-◌, ◌<◌, ◌≤◌, ◌==◌, ◌↔◌, Bool, true, false, List, [], ◌∷◌, length, filter, All, Contains, slice_get, slice_index_or, Option, Some, IsTrue, refl, ap, sym, subst, ◌∙◌, arith}
 use Rattle.std.proofs.lemmas.Bool.Decides.{eqb_tells}
 use Rattle.std.proofs.lemmas.List.{get_or_default}
 use Rattle.std.proofs.lemmas.List.Elements.{All-contains}
@@ -8,8 +8,11 @@ use Rattle.interleaving.specs.Log.{Edge as TheoryEdge, IsMet}
 use Rattle.edge_log.specs.declared.Edge.{Edge}
 use Rattle.edge_log.specs.EdgeLog.{IsLog, row_of, edge_as}
 use Rattle.edge_log.proofs.Logs.{in_row, of_row, to_edges}
+use Rattle.interleaving.specs.Stored.{halted_of}
+use Rattle.rv32_hart.specs.Hart.{Hart}
+use Rattle.rv32_hart.specs.Hardware.{hardware}
 use Rattle.guest_image.specs.Machine.{MachineState}
-use Rattle.hart_lease.specs.Runs.{counts_of}
+use Rattle.hart_lease.specs.Runs.{counts_of, steps_taken}
 use Rattle.hart_replay.specs.declared.plans.PlannedLeg.{PlannedLeg}
 use Rattle.hart_replay.specs.Plans.{log_of}
 use Rattle.hart_replay.specs.Replays.{is_halted}
@@ -55,3 +58,26 @@ quiet_may leg m hart stop quiet runs lt =
       below = let within = quiet.within in omega (arith, within, lt);
       met = λ e has own at. let from = quiet.edges e has own (omega (arith, at)) in absurd (omega (arith, from, at, lt));
     }
+
+-- ---- from what a hart's state tells
+
+runs_so : (m : MachineState) (hart : ℕ) (h : Hart) → slice_get m.harts hart ≡ Some h → is_halted m hart ≡ h.halted
+runs_so m hart h found = ap (λ (o : Option Hart). halted_of (hardware (length m.pages)) o) found
+
+pub halted_stays : (leg : PlannedLeg) (m : MachineState) (hart : ℕ) (h : Hart) → slice_get m.harts hart ≡ Some h → h.halted ≡ true → MayGo leg m hart → ⊥
+halted_stays leg m hart h found halted may = true_or_false (sym halted ∙ sym (runs_so m hart h found) ∙ may.runs)
+
+pub below_stop : (leg : PlannedLeg) (m : MachineState) (hart stop : ℕ) (h : Hart) → slice_get m.harts hart ≡ Some h → h.halted ≡ false →
+    IsQuietTo leg hart (counts_of m hart) stop → h.count < stop → MayGo leg m hart
+below_stop leg m hart stop h found runs quiet lt =
+    let own : counts_of m hart ≡ h.count = ap steps_taken found in
+    quiet_may leg m hart stop quiet (runs_so m hart h found ∙ runs) (omega (arith, own, lt))
+
+pub passes : (leg : PlannedLeg) (m : MachineState) (hart count : ℕ) (h : Hart) (result : Bool) → slice_get m.harts hart ≡ Some h → h.halted ≡ false →
+    count ≡ counts_of m hart → IsTrue result ↔ ((count < count_at leg.ends hart) × IsMet (log_of leg).edges (counts_of m) hart) →
+    IsTrue result ↔ MayGo leg m hart
+passes leg m hart count h result found runs is exact = (
+  λ yes. let both = exact.0 yes in let lt = both.0 in
+      record { runs = runs_so m hart h found ∙ runs; below = omega (arith, is, lt); met = both.1 },
+  λ may. let below = may.below in exact.1 (omega (arith, is, below), may.met),
+)

@@ -46,7 +46,7 @@ first_base now [] leg on is hart = cc
 first_base now (x ∷ legs) leg on is hart = let same : x ≡ leg = cc in ap (λ (l : PlannedLeg). count_at l.base hart) (sym same) ∙ on.0 hart
 
 -- no leg ends behind the last one
-ends_below : (many : ℕ) (now : ℕ → ℕ) (legs : List PlannedLeg) (place : ℕ) (leg : PlannedLeg) → All (IsLeg many) legs → GoOn now legs →
+pub ends_below : (many : ℕ) (now : ℕ → ℕ) (legs : List PlannedLeg) (place : ℕ) (leg : PlannedLeg) → All (IsLeg many) legs → GoOn now legs →
     slice_get legs place ≡ Some leg → (hart : ℕ) → count_at leg.ends hart ≤ count_at (ends_of legs) hart
 ends_below many now [] place leg all on is hart = cc
 ends_below many now (x ∷ []) zero leg all on is hart =
@@ -65,7 +65,7 @@ ends_below many now (x ∷ y ∷ legs) zero leg all on is hart =
 ends_below many now (x ∷ y ∷ legs) (suc place) leg all on is hart =
     ends_below many (count_at x.ends) (y ∷ legs) place leg (All-tail (IsLeg many) x (y ∷ legs) all) on.1 is hart
 
-last_is : (legs : List PlannedLeg) (place : ℕ) (leg : PlannedLeg) → slice_get legs place ≡ Some leg → length legs ≤ place + 1 → leg.ends ≡ ends_of legs
+pub last_is : (legs : List PlannedLeg) (place : ℕ) (leg : PlannedLeg) → slice_get legs place ≡ Some leg → length legs ≤ place + 1 → leg.ends ≡ ends_of legs
 last_is [] place leg is le = cc
 last_is (x ∷ []) zero leg is le = let same : x ≡ leg = cc in ap (λ (l : PlannedLeg). l.ends) (sym same)
 last_is (x ∷ []) (suc place) leg is le = cc

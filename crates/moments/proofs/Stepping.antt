@@ -67,6 +67,12 @@ module _ (hart : ℕ) (inputs : List Input) (first harts : List Hart) (same_hart
   pub state_at : (h : Hart) → slice_get first hart ≡ Some h → state ≡ h
   state_at = read_state harts first hart index state same_harts index_is state_is
 
+  pub step_runs : hart < length first → ((h : Hart) → slice_get first hart ≡ Some h → (h.halted ≡ false) × (h.count < 2 ^ 48 - 1)) →
+      (state.halted ≡ false) × (state.count < 2 ^ 48 - 1)
+  step_runs lt runs =
+      let there = there_below first hart lt in
+      subst (λ (k : Hart). (k.halted ≡ false) × (k.count < 2 ^ 48 - 1)) (sym (state_at there.0 there.1)) (runs there.0 there.1)
+
   pub taken : (after : Hart) (left : List Part) → IsTaken inputs state (ram_of parts) after (ram_of left) → (h : Hart) → slice_get first hart ≡ Some h →
       (let m : MachineState = record { harts = slice_set harts index after; pages = contents_of left } in m) ≡
       stored_after (record { harts = first; pages = contents_of before }) hart (effect (length (contents_of before)) h inputs (slice_get (contents_of before)))

@@ -4,7 +4,7 @@ use Rattle.std.proofs.lemmas.Bool.{cases_lt}
 use Rattle.ft_types.specs.Counts.{count_at}
 use Rattle.ft_types.specs.declared.names.TheConstants.{HART_ROW}
 use Rattle.interleaving.specs.Log.{Edge, bump}
-use Rattle.interleaving.specs.Stored.{run_from, goes, stored_after}
+use Rattle.interleaving.specs.Stored.{run_from, goes, halted_of, stored_after}
 use Rattle.interleaving.proofs.Put.{same_or_not, bump_same, bump_other}
 use Rattle.input_log.specs.declared.Input.{Input}
 use Rattle.rv32_hart.specs.Hart.{Hart}
@@ -12,11 +12,16 @@ use Rattle.rv32_hart.specs.Hardware.{hardware}
 use Rattle.rv32_hart.specs.Step.{effect}
 use Rattle.guest_image.specs.Machine.{MachineState}
 use Rattle.hart_lease.specs.Runs.{run_of, counts_of, steps_taken}
+use Rattle.hart_lease.proofs.journals.Sizes.{as_large}
+use Rattle.log_audit.proofs.StepAnswers.{there_below}
 use Rattle.hart_replay.specs.declared.plans.PlannedLeg.{PlannedLeg}
 use Rattle.hart_replay.specs.Plans.{log_of}
 use Rattle.log_audit.specs.machinery.Covered.{IsQuietTo}
-use Rattle.moments.specs.Line.{MayGo, IsNext, Steps, turn_in}
-use Rattle.moments.specs.machinery.Kept.{AreQuiet}
+use Rattle.hart_replay.specs.Leading.{AreAtEnds}
+use Rattle.moments.specs.Line.{MayGo, IsNext, Steps, turn_in, Standing, Leads}
+use Rattle.moments.specs.Line.{TurnsOn}
+use Rattle.moments.specs.machinery.Kept.{AreQuiet, IsTurned}
+use Rattle.moments.proofs.Moves.{one_leg}
 use Rattle.moments.proofs.Standings.{counts_step}
 
 -- no hart is known to be quiet
@@ -34,6 +39,32 @@ quiet_at_none leg m = λ hart lt.
       inputs = λ n from below. absurd (omega (arith, none, below));
     }
 
+-- the line is led on past a leg that was led to its end
+pub turn_more : (legs : List PlannedLeg) (first t u : Standing) (leg : PlannedLeg) → slice_get legs t.place ≡ Some leg → AreAtEnds t.machine leg.ends →
+    u.place ≡ t.place + 1 → u.moment ≡ t.moment → u.machine ≡ t.machine → ((s : Standing) → Leads legs s first → Leads legs s t) →
+    (s : Standing) → Leads legs s first → Leads legs s u
+turn_more legs first t u leg at ends place moment machine so_far s leads =
+    subst (λ (x : Standing). Leads legs s x) (λ i. record { place = sym place i; moment = sym moment i; machine = sym machine i })
+    (TurnsOn leg (so_far s leads) at ends)
+
+-- a leg that was not led to its end, and the last one
+pub not_led : (legs : List PlannedLeg) (t : Standing) (leg : PlannedLeg) → slice_get legs t.place ≡ Some leg → (AreAtEnds t.machine leg.ends → ⊥) →
+    IsTurned legs t
+not_led legs t leg at none other found ends =
+    absurd (none (subst (λ (l : PlannedLeg). AreAtEnds t.machine l.ends) (sym (one_leg legs t.place leg other at found)) ends))
+
+pub last_turned : (legs : List PlannedLeg) (t : Standing) → length legs - 1 ≤ t.place → IsTurned legs t
+last_turned legs t le leg at ends = omega (arith, le)
+
+-- a hart that comes next runs, and is below its end
+pub next_runs : (leg : PlannedLeg) (m : MachineState) (hart limit : ℕ) → IsNext leg m hart → count_at leg.ends hart < limit → (h : Hart) →
+    slice_get m.harts hart ≡ Some h → (h.halted ≡ false) × (h.count < limit - 1)
+next_runs leg m hart limit next below h found =
+    let runs : h.halted ≡ false = sym (ap (λ (o : Option Hart). halted_of (hardware (length m.pages)) o) found) ∙ next.may.runs in
+    let count : counts_of m hart ≡ h.count = ap steps_taken found in
+    let lt = next.may.below in
+    (runs, omega (arith, count, lt, below))
+
 -- the step that was taken, in the line's words
 pub steps_made : (leg : PlannedLeg) (m : MachineState) (hart : ℕ) (h : Hart) (inputs : List Input) → slice_get m.harts hart ≡ Some h → h.halted ≡ false →
     inputs ≡ (log_of leg).inputs hart (counts_of m hart) →
@@ -45,6 +76,26 @@ steps_made leg m hart h inputs found runs given =
     went : run_from (hardware (length m.pages)) (goes (hardware (length m.pages)) m (turn_in leg m hart) (Some h)) [] ≡
         Some (stored_after m hart (effect (length m.pages) h inputs (slice_get m.pages)))
     went = rw (runs, given) refl
+
+-- so it was, where a step tells of the hart that was found
+pub steps_taken_so : (leg : PlannedLeg) (m n : MachineState) (hart : ℕ) (inputs : List Input) → hart < length m.harts → IsNext leg m hart →
+    inputs ≡ (log_of leg).inputs hart (counts_of m hart) →
+    ((h : Hart) → slice_get m.harts hart ≡ Some h → n ≡ stored_after m hart (effect (length m.pages) h inputs (slice_get m.pages))) → Steps leg m hart n
+steps_taken_so leg m n hart inputs lt next given taken =
+    let found = there_below m.harts hart lt in
+    let runs : found.0.halted ≡ false = sym (ap (λ (o : Option Hart). halted_of (hardware (length m.pages)) o) found.1) ∙ next.may.runs in
+    subst (λ (x : MachineState). Steps leg m hart x) (sym (taken found.0 found.1)) (steps_made leg m hart found.0 inputs found.1 runs given)
+
+-- a hart has no inputs at a count below its stop
+pub no_inputs : (leg : PlannedLeg) (m : MachineState) (hart : ℕ) (h : Hart) (count stop : ℕ) → slice_get m.harts hart ≡ Some h → count ≡ h.count →
+    IsQuietTo leg hart (counts_of m hart) stop → count < stop → [] ≡ (log_of leg).inputs hart (counts_of m hart)
+no_inputs leg m hart h count stop found is quiet lt =
+    let own : counts_of m hart ≡ h.count = ap steps_taken found in
+    sym (quiet.inputs (counts_of m hart) (omega arith) (omega (arith, own, is, lt)))
+
+-- a step leaves as many harts
+pub as_many : (leg : PlannedLeg) (m n : MachineState) (hart : ℕ) → Steps leg m hart n → length n.harts ≡ length m.harts
+as_many leg m n hart steps = (as_large m n (turn_in leg m hart ∷ []) steps).harts
 
 -- ---- harts stay quiet
 

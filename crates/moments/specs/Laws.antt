@@ -50,3 +50,10 @@ EndsTellHistories =
     AreAtEnds t.machine leg.ends → (history : GuestHistory) (store : StoreView) (position : Position) → IsStore store →
     IsHonestStoreOf image history store → ArePlanned store position legs →
     view (hardware image.pages) t.machine ≡ machine_of image history position.term (count_at position.counts)
+
+-- and at each moment it is the history's machine at its counts, of the leg's term
+abbrev pub MomentsTellHistories : Type 0
+MomentsTellHistories =
+    (image : ImageContents) (legs : List PlannedLeg) (leg : PlannedLeg) (t : Standing) → StandsOn image legs leg t → (history : GuestHistory)
+    (store : StoreView) (position : Position) → IsStore store → IsHonestStoreOf image history store → ArePlanned store position legs →
+    view (hardware image.pages) t.machine ≡ machine_of image history leg.term (counts_of t.machine)

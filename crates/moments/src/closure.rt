@@ -2,13 +2,30 @@
 
 ghost use Rattle.std.specs.Prelude.{◌≡◌, ◌<◌, ◌≤◌, ℕ, true, false, length};
 ghost use Rattle.ft_types.specs.Counts.{count_at};
+ghost use Rattle.ft_types.specs.declared.names.TheConstants.{COUNT_LIMIT};
 ghost use Rattle.interleaving.specs.Lists.{IsWithin};
 ghost use Rattle.interleaving.specs.Log.{IsClosed};
 ghost use Rattle.hart_replay.specs.Plans.{IsLeg, log_of};
-ghost use Rattle.moments.specs.machinery.Raising.{Raises, RaisesFor, IsLeastAbove};
+ghost use Rattle.moments.specs.machinery.Raising.{IsRaisedBy, Raises, RaisesFor, IsLeastAbove};
 
+use edge_log::Edge;
 use ft_types::{Count, Counts, Hart};
 use hart_replay::PlannedLeg;
+
+/// Raises the count for which the edge asks, where its step is below this count. Whether it was raised.
+fn raise_by(cut: &mut Counts, edge: &Edge, end: Count) -> bool
+    requires other { edge.now.other < length cut.old }
+    requires count { edge.now.at < end → edge.now.after < COUNT_LIMIT }
+    ensures raised { result ≡ true → IsRaisedBy edge.now end cut.old cut.new }
+    ensures kept { result ≡ false → cut.new ≡ cut.old }
+    ensures met { result ≡ false → edge.now.at < end → edge.now.after ≤ count_at cut.old edge.now.other }
+{
+    if edge.at < end && cut.get(edge.other) < edge.after {
+        cut.set(edge.other, edge.after);
+        return true;
+    }
+    false
+}
 
 /// Raises the counts to what the edges of the hart's steps below its count ask for. Whether one was raised.
 fn raise_for(leg: &PlannedLeg, cut: &mut Counts, hart: Hart) -> bool
@@ -17,13 +34,12 @@ fn raise_for(leg: &PlannedLeg, cut: &mut Counts, hart: Hart) -> bool
     requires within { IsWithin (count_at cut.old) (count_at leg.now.ends) }
     ensures raises { RaisesFor leg.now hart cut.old result cut.new }
 {
+    // proof: the edges keep the rules of a log.
+    let _rules = leg.edges.next(hart, 0);
     let end = cut.get(hart);
     let mut has_raised = false;
     for edge in leg.edges.of_hart(hart) {
-        if edge.at < end && cut.get(edge.other) < edge.after {
-            cut.set(edge.other, edge.after);
-            has_raised = true;
-        }
+        has_raised |= raise_by(cut, edge, end);
     }
     has_raised
 }
@@ -36,9 +52,7 @@ fn raise_all(leg: &PlannedLeg, cut: &mut Counts) -> bool
 {
     let mut has_raised = false;
     for number in 0..cut.harts() {
-        if raise_for(leg, cut, Hart::new(number)) {
-            has_raised = true;
-        }
+        has_raised |= raise_for(leg, cut, Hart::new(number));
     }
     has_raised
 }

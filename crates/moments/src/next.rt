@@ -62,11 +62,15 @@ fn may_go(leg: &PlannedLeg, machine: &SteppedMachine, stops: &Stops, hart: Hart)
         return false;
     }
     let count = state.count();
-    count < stops[hart.index()] || may_pass(leg, machine, hart, count)
+    if count < stops[hart.index()] {
+        return true;
+    }
+    may_pass(leg, machine, hart, count)
 }
 
 /// Of the first harts the one that comes next, once this hart is the next of them.
 #[inline(always)]
+#[tactic(auto, using(crate::proofs::Choosing::chosen_next, crate::proofs::Choosing::chosen_still))]
 fn sooner(
     leg: &PlannedLeg,
     machine: &SteppedMachine,

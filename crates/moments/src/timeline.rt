@@ -5,18 +5,19 @@ ghost use Rattle.ft_types.specs.Counts.{count_at};
 ghost use Rattle.ft_types.specs.declared.names.TheConstants.{INPUT_LIMIT};
 ghost use Rattle.input_log.specs.Inputs.{inputs_at, inputs_of};
 ghost use Rattle.guest_image.specs.Image.{guest_of};
-ghost use Rattle.guest_image.specs.Machine.{boot_machine};
+ghost use Rattle.guest_image.specs.Machine.{MachineState, boot_machine};
 ghost use Rattle.rv32_hart.specs.Hart.{Hart as HartRecord};
 ghost use Rattle.rv32_hart.specs.Ram.{word_at};
 ghost use Rattle.rv32_hart.specs.Access.{in_ram, page_at, offset_at};
 ghost use Rattle.moments.specs.declared.access.Access.{Access as access_of_specs};
+ghost use Rattle.moments.specs.declared.access.Access.TheVariants as access;
 ghost use Rattle.moments.specs.Points.{IsStepFrom};
 ghost use Rattle.hart_lease.specs.Runs.{counts_of};
 ghost use Rattle.hart_replay.specs.declared.fault.ReplayFault.TheVariants as fault;
 ghost use Rattle.hart_replay.specs.Leading.{AreAtEnds, ComesShort};
-ghost use Rattle.moments.specs.Line.{LineView, InLeg, IsAt, IsAtEnd, IsNext, NoneMayGo, HasGoneOn, steps_of as steps_of_legs};
+ghost use Rattle.moments.specs.Line.{LineView, Leads, standing_at, InLeg, IsAt, IsAtEnd, IsNext, NoneMayGo, HasGoneOn, ends_of, steps_of as steps_of_legs};
 ghost use Rattle.moments.specs.machinery.Machines.{machine_of, standing_of};
-ghost use Rattle.moments.specs.machinery.Kept.{IsBegun, OnLine};
+ghost use Rattle.moments.specs.machinery.Kept.{IsBegun, IsTurned, OnLine};
 
 use crate::access::{Access, access_of, place_of};
 use crate::machines::SteppedMachine;
@@ -97,6 +98,16 @@ fn steps_of(legs: &[PlannedLeg]) -> u64
     }
 }
 
+/// How many steps the hart has at the end of the last leg.
+fn end_in(legs: &[PlannedLeg], hart: Hart) -> u64
+    ensures { result ≡ count_at (ends_of legs.now) hart }
+{
+    match legs.last() {
+        Some(leg) => leg.ends.count_of(hart),
+        None => 0,
+    }
+}
+
 /// The least hart that is halted below its end; at which counts harts wait, where none is; nothing, where all are at their ends.
 fn stuck_at(leg: &PlannedLeg, machine: &SteppedMachine) -> Option<ReplayFault>
     ensures fault { IfSome result (λ f. ComesShort (machine_of machine.now) leg.now.ends f) }
@@ -136,7 +147,7 @@ fn begun(alloc: Global, plan: Plan, first: Snapshot) -> Result<Timeline, Memory>
         plan,
         last,
         first,
-        now,
+        stands: now,
         kept: Vec::new(alloc),
         stretch,
         due: stretch,
@@ -231,6 +242,14 @@ impl Timeline {
         self.stands.machine.counts()
     }
 
+    /// How many steps a hart has taken, 0 where there is no such hart.
+    #[inline(always)]
+    pub(crate) fn count_of(&self, hart: Hart) -> Count
+        ensures value { result ≡ counts_of self.now.stands.machine hart }
+    {
+        self.stands.machine.count_of(hart)
+    }
+
     /// A hart.
     #[inline(always)]
     pub fn hart(&self, hart: Hart) -> &HartState
@@ -285,9 +304,17 @@ impl Timeline {
         }
     }
 
+    // proof: where it stands on its line.
+    #[inline(always)]
+    pub(crate) fn stands_there(&self)
+        ensures leads { Leads self.now.legs (standing_at self.now.start) self.now.stands }
+        ensures turned { IsTurned self.now.legs self.now.stands }
+    {}
+
     /// What the step that comes next uses of RAM, beside the word that it fetches.
     pub fn access(&self) -> Access
         ensures uses { (h : HartRecord) (access : access_of_specs) → IsStepFrom self.now.legs self.now.stands h access → result ≡ access }
+        ensures step { (result ≢ access.Nothing) → (h : HartRecord) × IsStepFrom self.now.legs self.now.stands h result }
     {
         match self.next() {
             Some(hart) => access_of(&self.stands.machine, hart, self.inputs(hart)),
@@ -313,6 +340,7 @@ impl Timeline {
         requires there { hart < length self.old.stands.machine.harts }
         requires next { InLeg self.old (λ leg. IsNext leg self.old.stands.machine hart) }
         ensures taken { OnOk result (HasGoneOn self.old self.new 1) }
+        ensures room { self.old.stands.moment < steps_of_legs self.old.legs }
         ensures kept { OnErr result (self.new ≡ self.old) }
     {
         // proof: the line has room for the step.
@@ -335,6 +363,7 @@ impl Timeline {
     pub fn forward(&mut self) -> Result<bool, ReplayFault>
         ensures went { IfOk result (λ went. went ≡ true → HasGoneOn self.old self.new 1) }
         ensures end { IfOk result (λ went. went ≡ false → (self.new ≡ self.old) × IsAtEnd self.old) }
+        ensures room { IfOk result (λ went. went ≡ true → self.old.stands.moment < steps_of_legs self.old.legs) }
         ensures all { IfOk result (λ went. went ≡ false → self.old.stands.moment ≡ steps_of_legs self.old.legs) }
         ensures kept { OnErr result (self.new ≡ self.old) }
         ensures fault { IfErr result (λ f. InLeg self.old (λ leg. ComesShort self.old.stands.machine leg.ends f)) }
@@ -349,11 +378,12 @@ impl Timeline {
     }
 
     /// How many steps the hart has at the end of the line.
-    pub fn end_of(&self, hart: Hart) -> u64 {
-        match self.plan.legs().last() {
-            Some(leg) => leg.ends.count_of(hart),
-            None => 0,
-        }
+    pub fn end_of(&self, hart: Hart) -> u64
+        ensures value { result ≡ count_at (ends_of self.now.legs) hart }
+        ensures most { (moment : ℕ) (m : MachineState) → IsAt self.now.legs self.now.start moment m → counts_of m hart ≤ result }
+        ensures all { (m : MachineState) → IsAt self.now.legs self.now.start (steps_of_legs self.now.legs) m → counts_of m hart ≡ result }
+    {
+        end_in(self.plan.legs(), hart)
     }
 
     /// False, where the line is at its end; else why nobody can go on.
@@ -404,6 +434,7 @@ impl Timeline {
     pub(crate) fn near_count(&mut self, hart: Hart, count: Count) -> Result<(), Memory>
         ensures line { self.new ≡ record self.old { stands = self.new.stands } }
         ensures below { OnOk result ((self.new.stands.moment ≡ 0) ⊎ (counts_of self.new.stands.machine hart < count)) }
+        ensures most { OnOk result (counts_of self.new.stands.machine hart ≤ count) }
         ensures kept { OnErr result (self.new ≡ self.old) }
     {
         let there = last_below(&self.first, &self.kept, hart, count);

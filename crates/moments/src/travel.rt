@@ -14,6 +14,17 @@ use hart_replay::ReplayFault;
 use std::option::Option;
 use std::result::Result;
 
+/// The hit at this moment, where there is one; else the last one before.
+fn later_hit(last: Option<(u64, usize)>, now: u64, hit: Option<usize>) -> Option<(u64, usize)>
+    ensures some { IfSome hit (λ number. result ≡ Some (now, number)) }
+    ensures none { IfNone hit (result ≡ last) }
+{
+    match hit {
+        Some(number) => Some((now, number)),
+        None => last,
+    }
+}
+
 impl Timeline {
     /// Goes to a moment.
     pub fn go_to(&mut self, moment: u64) -> Result<(), ReplayFault>
@@ -37,12 +48,16 @@ impl Timeline {
         ensures none { IfOk result (λ went. went ≡ false → (self.new ≡ self.old) × ((moment : ℕ) (m : MachineState) →
             IsAt self.old.legs self.old.start moment m → counts_of m hart < count)) }
     {
-        if hart.number() >= self.harts() || self.end_of(hart) < count {
+        if self.end_of(hart) < count {
             return Ok(false);
         }
         self.near_count(hart, count)?;
-        while self.hart(hart).count() < count {
+        // proof: the line leads here.
+        self.stands_there();
+        while self.count_of(hart) < count {
             self.forward()?;
+            // proof: and here.
+            self.stands_there();
         }
         Ok(true)
     }
@@ -52,7 +67,12 @@ impl Timeline {
         ensures some { IfSome result (IsOne BreaksAt points.now self.now self.now.stands.moment) }
         ensures none { IfNone result (NoneFrom BreaksAt points.now self.now self.now.stands.moment (self.now.stands.moment + 1)) }
     {
-        first_break(points, self.hart(self.next()?).pc())
+        // proof: the line leads here, where it does not turn.
+        self.stands_there();
+        match self.next() {
+            Some(hart) => first_break(points, self.hart(hart).pc()),
+            None => None,
+        }
     }
 
     /// The first point that watches what the step that comes next uses.
@@ -60,6 +80,8 @@ impl Timeline {
         ensures some { IfSome result (IsOne WatchesAt points.now self.now self.now.stands.moment) }
         ensures none { IfNone result (NoneFrom WatchesAt points.now self.now self.now.stands.moment (self.now.stands.moment + 1)) }
     {
+        // proof: the line leads here, where it does not turn.
+        self.stands_there();
         first_watch(points, self.access())
     }
 
@@ -95,15 +117,15 @@ impl Timeline {
 
     /// Goes on to a moment. Of the moments on the way the last one whose step hits a point, and which point.
     fn last_hit(&mut self, points: &[Point], end: u64) -> Result<Option<(u64, usize)>, ReplayFault>
-        requires { end ≤ steps_of self.old.legs }
+        requires from { self.old.stands.moment ≤ end }
+        requires within { end ≤ steps_of self.old.legs }
         ensures line { self.new ≡ record self.old { stands = self.new.stands } }
         ensures last { IfOk result (LastHit points.now self.old end) }
     {
         let mut last = None;
         while self.now() < end {
-            if let Some(number) = self.hit(points) {
-                last = Some((self.now(), number));
-            }
+            let hit = self.hit(points);
+            last = later_hit(last, self.now(), hit);
             self.forward()?;
         }
         Ok(last)

@@ -141,7 +141,7 @@ module _ {Hart Page : Type 0} (system : System Hart Page (List Input)) (boot : M
 
   -- ---- schedules
 
-  begins_of_log : (order : List ℕ) → Begins (edges_of leg.edges) ends (count_at leg.base) order → Begins log.edges ends log.start order
+  pub begins_of_log : (order : List ℕ) → Begins (edges_of leg.edges) ends (count_at leg.base) order → Begins log.edges ends log.start order
   begins_of_log order begins =
       subst (λ s. Begins log.edges ends s order) same_start
       (begins_too log.edges has_edges.all (count_at leg.base) ends of_facts order (count_at leg.base) (λ i. omega arith)
@@ -153,7 +153,7 @@ module _ {Hart Page : Type 0} (system : System Hart Page (List Input)) (boot : M
       (begins_too has_edges.all log.edges (count_at leg.base) ends (λ e has from less. (of_log e has).0) order (count_at leg.base) (λ i. omega arith)
       (subst (λ s. Begins log.edges ends s order) (sym same_start) begins))
 
-  leg_turns : (order : List ℕ) → Begins (edges_of leg.edges) ends (count_at leg.base) order →
+  pub leg_turns : (order : List ℕ) → Begins (edges_of leg.edges) ends (count_at leg.base) order →
       turns_of (log_of leg).inputs (count_at leg.base) order ≡ turns_of log.inputs log.start order
   leg_turns order begins =
       same_turns (log_of leg).inputs log.inputs (edges_of leg.edges) (count_at leg.base) ends same_inputs order (count_at leg.base) (λ i. omega arith) begins ∙

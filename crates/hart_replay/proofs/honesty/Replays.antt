@@ -42,7 +42,7 @@ legs_keep_pages [] m n same = ap (λ (x : MachineState). length x.pages) same
 legs_keep_pages (leg ∷ legs) m n (next, leads, rest) = legs_keep_pages legs next n rest ∙ (left_as_large leg m next leads).pages
 
 -- what legs lead to, in the theory's words
-lead_from : (size : ℕ) (legs : List PlannedLeg) (m n : MachineState) → length m.pages ≡ size → LegsLead legs m n →
+pub lead_from : (size : ℕ) (legs : List PlannedLeg) (m n : MachineState) → length m.pages ≡ size → LegsLead legs m n →
     LeadFrom (system_of (hardware size)) (view (hardware size) m) legs (view (hardware size) n)
 lead_from size [] m n pages same = ap (view (hardware size)) same
 lead_from size (leg ∷ legs) m n pages (next, (order, schedule, ran), rest) =

@@ -23,6 +23,13 @@ QuietAt legs t stops = (length stops ≡ HART_ROW) × ((leg : PlannedLeg) → sl
 abbrev pub IsTurned : List PlannedLeg → Standing → Type 0
 IsTurned legs t = (leg : PlannedLeg) → slice_get legs t.place ≡ Some leg → AreAtEnds t.machine leg.ends → length legs ≤ t.place + 1
 
+-- the leg was led to its end, and another is behind it
+pub record IsLed (legs : List PlannedLeg) (t : Standing) : Type 0 where
+  pub leg : PlannedLeg
+  pub at : slice_get legs t.place ≡ Some leg
+  pub ends : AreAtEnds t.machine leg.ends
+  pub behind : t.place < length legs - 1
+
 -- where a line of the plan begins: nobody took a step
 pub record IsBegun (guest : GuestParts) (legs : List PlannedLeg) (first : Standing) : Type 0 where
   pub plan : IsPlan guest legs

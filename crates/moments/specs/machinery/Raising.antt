@@ -1,8 +1,9 @@
 -- Counts that are raised until they are a closed cut: private words.
-use Rattle.std.specs.Prelude.{ℕ, ◌≡◌, ◌+◌, ◌<◌, ◌≤◌, Bool, true, false, List, Contains, length, sum}
+use Rattle.std.specs.Prelude.{ℕ, ◌≡◌, ◌+◌, ◌<◌, ◌≤◌, Bool, true, false, List, Contains, length, slice_set, sum}
 use Rattle.ft_types.specs.Counts.{count_at}
 use Rattle.interleaving.specs.Lists.{IsWithin}
 use Rattle.interleaving.specs.Log.{Edge, IsClosed, IsCut}
+use Rattle.edge_log.specs.declared.Edge.{Edge as LogEdge}
 use Rattle.hart_replay.specs.declared.plans.PlannedLeg.{PlannedLeg}
 use Rattle.hart_replay.specs.Plans.{log_of}
 
@@ -11,6 +12,12 @@ pub record IsRaised (leg : PlannedLeg) (old new : List ℕ) : Type 0 where
   pub harts : length new ≡ length old
   pub more : IsWithin (count_at old) (count_at new)
   pub least : (other : ℕ → ℕ) → IsClosed (log_of leg).edges other → IsWithin (count_at old) other → IsWithin (count_at new) other
+
+-- the edge is of a step below this count, and the count for which it asks was raised to it
+pub record IsRaisedBy (e : LogEdge) (end : ℕ) (old new : List ℕ) : Type 0 where
+  pub below : e.at < end
+  pub asks : count_at old e.other < e.after
+  pub raised : new ≡ slice_set old e.other e.after
 
 -- the edges of the hart's steps below the counts are met
 abbrev pub AreMetOf : PlannedLeg → ℕ → List ℕ → Type 0

@@ -4,6 +4,12 @@ use Rattle.moments.proofs.Turns.{quiet_on}
 use Rattle.moments.proofs.Passing.{quiet_may}
 use Rattle.moments.proofs.Keeping.{none_all}
 use Rattle.moments.proofs.Hits.{no_step}
+use Rattle.moments.proofs.Lines.{gone_on}
+use Rattle.moments.proofs.Raised.{way_ends}
+use Rattle.moments.proofs.LegsWith.{none_of_legs}
+use Rattle.moments.proofs.Rises.{went_on}
+use Rattle.moments.proofs.Stopping.{stops_back}
+use Rattle.moments.proofs.Interrupts.{word_read}
 use Rattle.moments.proofs.Parts.{bytes_at}
 use Rattle.hart_replay.proofs.honesty.Images.{honest_in}
 use Rattle.hart_replay.proofs.honesty.Replays.{at_position}
@@ -11,6 +17,7 @@ use Rattle.moments.specs.Line.{standing_at}
 use Rattle.moments.proofs.Moves.{one_machine}
 use Rattle.moments.proofs.Cutting.{counts_are_cuts}
 use Rattle.moments.proofs.Histories.{ends_are_outcomes}
+use Rattle.moments.proofs.Telling.{moments_tell}
 use Rattle.moments.proofs.laws.honest_moments.Goals as goal
 
 pub returns-clause-one : goal.returns-clause-one
@@ -28,3 +35,6 @@ pub returns-clause-tell : goal.returns-clause-tell
 returns-clause-tell c image legs leg t on last ends history store position rules honest planned =
     at_position image legs history store position rules (honest_in image history store honest) planned t.machine
     (ends_are_outcomes image legs leg t on last ends)
+
+pub returns-clause-moments : goal.returns-clause-moments
+returns-clause-moments c = moments_tell

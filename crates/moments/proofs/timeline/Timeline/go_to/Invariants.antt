@@ -1,11 +1,11 @@
-use Rattle.std.proofs.Common.{◌≡◌, ◌≤◌, ◌-◌}
-use Rattle.moments.specs.Line.{LineView}
-use Rattle.moments.proofs.travel.Timeline.go_to.Given as goal
+use Rattle.std.proofs.Common.{◌≤◌, ◌-◌}
+use Rattle.moments.proofs.Stopping.{IsElsewhere}
+use Rattle.moments.proofs.timeline.Timeline.go_to.Given as goal
 
 abbrev pub invariant-loop-self : goal.invariant-loop-self
 invariant-loop-self l =
     record {
-      line : l.self ≡ record l.fn.self { stands = l.self.stands };
+      line : IsElsewhere l.fn.self l.self;
       within : l.self.stands.moment ≤ l.moment;
     }
 
