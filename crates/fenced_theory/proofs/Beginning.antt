@@ -20,8 +20,8 @@ use Rattle.fenced_theory.proofs.Growing.{below_itself, some_same, some_none, lat
 use Rattle.fenced_theory.proofs.Stores.{below_cut}
 use Rattle.fenced_theory.proofs.Positions.{walked_covered}
 use Rattle.fenced_theory.proofs.Onward.{put_cases, Onward, onward_new, own_of, honest_on, starts_on}
-use Rattle.fenced_theory.proofs.Giving.{has_grows, IsFromKeepers, IsGranted, From}
-use Rattle.fenced_theory.proofs.Invariant.{Invariant, Moves, gives_on, given_on, granted_on, released_on}
+use Rattle.fenced_theory.proofs.Giving.{IsFromKeepers, IsGranted, From}
+use Rattle.fenced_theory.proofs.Invariant.{Invariant, Moves, holds_on, gives_on, given_on, granted_on, released_on}
 use Rattle.fenced_theory.proofs.Changes.{frame_grows, terms_move}
 use Rattle.fenced_theory.proofs.Terms.{sent_cases}
 
@@ -117,8 +117,10 @@ module _ {Book Fact : Type 0} (recorder : Recorder Book Fact) (guest : GuestPart
         stores = λ keeper s is. grown_store recorder w.terms more s m.grows (v.stores keeper s is);
         saves = λ keeper s is. grown_store recorder w.terms more s m.grows (v.saves keeper s is);
         has_saved = v.has_saved;
-        acks = λ term keeper hart step below s is. has_grows recorder w.terms more s s term hart step m.grows (below_itself s) (v.acks term keeper hart step below s is);
-        given = λ t keeper s is. given_on recorder w.terms more w.acked w.acked w.fence w.fence m t keeper s (v.given t keeper s is);
+        acks =
+            λ term keeper hart step below s is.
+            holds_on recorder w.terms more w.acked w.acked w.fence w.fence m quorum s s (below_itself s) (v.acks term keeper hart step below s is);
+        given = λ t keeper s is. given_on recorder w.terms more w.acked w.acked w.fence w.fence m quorum t keeper s (v.given t keeper s is);
         grants =
             λ term q is.
             elim (at term q is) [
@@ -161,7 +163,7 @@ module _ {Book Fact : Type 0} (recorder : Recorder Book Fact) (guest : GuestPart
             gave =
                 λ k under by.
                 let (s, is, below) = has.has k under by in
-                gives_on recorder w.terms more w.acked w.acked w.fence w.fence m u k s all below (v.given u k s is).gives;
+                gives_on recorder w.terms more w.acked w.acked w.fence w.fence m quorum u k s all below (v.given u k s is).gives;
           }
 
       at : (term : ℕ) (q : Past Book) → more term ≡ Some q → record { 0 : u ≡ term; 1 : new ≡ q } ⊎ (w.terms term ≡ Some q)

@@ -12,7 +12,7 @@ use Rattle.interleaving.proofs.Put.{same_or_not, put_same, put_other}
 use Rattle.fenced_theory.specs.Recorders.{Recorder}
 use Rattle.fenced_theory.specs.Families.{Boot, At, IsFamily, Keeps, Here, Above, IsInside}
 use Rattle.fenced_theory.specs.Notes.{HasNotes, IsMark}
-use Rattle.fenced_theory.specs.Worlds.{Quorum, Released, WentOutBy, World, IsNewTo, first_term, new_term, Happens, Idle, Step, Seal, Deliver, Join, Save, Restart, Lose, Fence, Acknowledge, Release, Note, Grant, Comes, Nobody, Begins, Then}
+use Rattle.fenced_theory.specs.Worlds.{Quorum, Released, WentOutBy, World, IsNewTo, first_term, new_term, Happens, Idle, Step, Seal, Deliver, Join, Save, Restart, Lose, Replace, Fence, Acknowledge, Release, Note, Grant, Comes, Nobody, Begins, Then}
 use Rattle.fenced_theory.specs.Laws.{Notes}
 use Rattle.fenced_theory.proofs.Growing.{some_same, some_none, a_piece}
 use Rattle.fenced_theory.proofs.Onward.{put_cases}
@@ -171,6 +171,7 @@ module _ {Book Fact : Type 0} (recorder : Recorder Book Fact) (guest : GuestPart
   on w v c n (Save keeper s is) = n
   on w v c n (Restart keeper s is) = n
   on w v c n (Lose keeper) = n
+  on w v c n (Replace keeper u chosen all has enough under silent) = n
   on w v c n (Fence keeper u s is under) = n
   on w v c n (Acknowledge keeper s p is position under) = n
   on w v c n (Release term p hart number o noted is at low enough above) =
