@@ -47,7 +47,7 @@ module _ {Book Fact : Type 0} (recorder : Recorder Book Fact) (guest : GuestPart
       }
 
   still : (e : Disk) → StandsOn guest w keeper e → IsFollowed recorder guest quorum w keeper d e Nothing
-  still e t = record { world = w; events = Same; stands = t; only = only_itself; told = tt }
+  still e t = record { world = w; events = Same; stands = t; only = only_itself; told = tt; silent = λ u hart none. refl }
 
   -- where the files are as they were
   now : (phase : Phase) (hand : Hand) → Knows guest w.sent d.files.log d.files.safe phase → KnowsFence d.files.fence hand →
@@ -114,6 +114,7 @@ module _ {Book Fact : Type 0} (recorder : Recorder Book Fact) (guest : GuestPart
             (subst (λ fence. IsSite guest w.sent (Some store) (w.saved keeper) fence e) (sym (ap (λ f. f keeper) v.only.fence)) t)));
         only = only_store v.world v.only;
         told = tt;
+        silent = λ u hart none. ap (λ f. f u keeper hart) v.only.acked;
       }
 
   only_now : OnlyStore w w keeper
@@ -256,6 +257,7 @@ module _ {Book Fact : Type 0} (recorder : Recorder Book Fact) (guest : GuestPart
               given = λ u le not. refl;
             };
         told = tt;
+        silent = λ u hart none. refl;
       }
 
   -- what is on disk is the keeper's store
@@ -293,6 +295,9 @@ module _ {Book Fact : Type 0} (recorder : Recorder Book Fact) (guest : GuestPart
               given = λ u le not. refl;
             };
         told = λ hart. raised_reaches w.acked p.term keeper (count_at p.counts) p.term keeper hart refl refl;
+        silent = λ u hart none.
+            ap (λ (r : ℕ → ℕ → ℕ). r keeper hart)
+            (put_other w.acked p.term u (put (w.acked p.term) keeper (λ h. max (w.acked p.term keeper h) (count_at p.counts h))) (none p refl));
       }
     where
       acked_other : (u k : ℕ) → (keeper ≡ k → ⊥) → (acking w p.term keeper (count_at p.counts)).acked u k ≡ w.acked u k
@@ -360,6 +365,7 @@ module _ {Book Fact : Type 0} (recorder : Recorder Book Fact) (guest : GuestPart
                   (put_other w.given term u (put (w.given term) keeper (Some s.store)) (apart u below not));
             };
         told = told;
+        silent = λ u hart none. refl;
       }
     where
       given_other : (u k : ℕ) → (keeper ≡ k → ⊥) → (fenced w keeper term s.store).given u k ≡ w.given u k

@@ -1,6 +1,7 @@
 -- Which part of the world of fencing a keeper's disk is.
 use Rattle.std.specs.Prelude.{◌≡◌, ◌≤◌, ◌<◌, max, ℕ, List, [], ◌++◌, Contains, Option, Some}
 use Rattle.ft_types.specs.Counts.{count_at}
+use Rattle.ft_types.specs.declared.position.Position.{Position}
 use Rattle.ft_types.specs.Guests.{GuestParts}
 use Rattle.fragment_codec.specs.declared.frame.Frame.{Frame}
 use Rattle.fragment_codec.specs.Streams.{IsStuck, Splits}
@@ -109,6 +110,8 @@ module _ {Book Fact : Type 0} (recorder : Recorder Book Fact) (guest : GuestPart
     pub stands : StandsOn guest world keeper e
     pub only : OnlyKeeper w world keeper d
     pub told : IsTold guest world keeper out
+    -- in no other term than that of what is said there is a new acknowledgement
+    pub silent : (u hart : ℕ) → ((p : Position) → out ≡ Says p → p.term ≡ u → ⊥) → world.acked u keeper hart ≡ w.acked u keeper hart
 
   abbrev pub DisksGo : Type 0
   DisksGo =

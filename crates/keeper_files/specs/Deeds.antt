@@ -22,6 +22,7 @@ pub data Deed : Type 0 where
   SawFences : Identity → Deed  -- which file has the fences' name
   SawMark : Bool → Deed  -- whether there is the mark of a log that failed
   Marked : Bool → Deed  -- that mark was made
+  Unmarked : Bool → Deed  -- that mark was removed
   ReadLog : List ℕ → Deed  -- all bytes of the open log
   ReadFences : List ℕ → Deed  -- all bytes of the file of the fences' name, none where there is none
   Unread : Deed  -- what was to be read or looked at was not
@@ -66,6 +67,16 @@ IsOfOneName own named = (own.links ≡ 1) × IsSameFile named own
 -- log and fences were not there, and no mark of a log that failed; then they were made
 abbrev pub making : Identity → Identity → List Deed
 making log fences = SawThere Log false ∷ SawThere Fences false ∷ SawMark false ∷ Made Log true ∷ Made Fences true ∷ SawOwn log ∷ SawFences fences ∷ []
+
+-- the same of files that are to be filled before anybody begins with them: they were marked as a log that failed, on disk, before there was one
+abbrev pub making_marked : Identity → Identity → List Deed
+making_marked log fences =
+    SawThere Log false ∷ SawThere Fences false ∷ SawMark false ∷ Marked true ∷ SyncedFolder true ∷ Made Log true ∷ Made Fences true ∷ SawOwn log ∷ SawFences fences ∷
+    []
+
+-- they are filled, and the mark was removed, on disk
+abbrev pub unmarking : List Deed
+unmarking = Unmarked true ∷ SyncedFolder true ∷ []
 
 -- the first line of the fences says whose they are, and both files and their folder were brought to disk
 abbrev pub naming : GuestParts → Keeps → List Deed

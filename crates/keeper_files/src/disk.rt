@@ -1,7 +1,7 @@
 //! What is asked of a disk.
 
 ghost use Rattle.std.specs.Prelude.{◌≡◌, ◌++◌, ℕ, List, [], ◌∷◌, true, false, IfOk, OnOk, OnErr, IsTrue, ◌↔◌};
-ghost use Rattle.keeper_files.specs.Deeds.{Deed, SawThere, Made, Opened, SyncedFolder, Locked, SawOwn, SawName, SawFences, SawMark, Marked, ReadLog, ReadFences, Unread, Cut, Appended, Synced, IsSameFile, inode_of};
+ghost use Rattle.keeper_files.specs.Deeds.{Deed, SawThere, Made, Opened, SyncedFolder, Locked, SawOwn, SawName, SawFences, SawMark, Marked, Unmarked, ReadLog, ReadFences, Unread, Cut, Appended, Synced, IsSameFile, inode_of};
 ghost use Rattle.stations.specs.Acts.{Does};
 
 use std::alloc::Global;
@@ -109,6 +109,11 @@ pub trait Disk {
     fn mark(&mut self) -> io::Result<()>
         ensures ok { OnOk result (Does (deeds self.old) (deeds self.new) (Marked true ∷ [])) }
         ensures failed { OnErr result (Does (deeds self.old) (deeds self.new) (Marked false ∷ [])) };
+
+    /// Removes the mark of a log that failed.
+    fn unmark(&mut self) -> io::Result<()>
+        ensures ok { OnOk result (Does (deeds self.old) (deeds self.new) (Unmarked true ∷ [])) }
+        ensures failed { OnErr result (Does (deeds self.old) (deeds self.new) (Unmarked false ∷ [])) };
 
     /// Reads the open log, from its first byte to its last.
     fn read_log(&mut self, alloc: Global) -> io::Result<Vec<u8>>

@@ -11,5 +11,5 @@ mod owners;
 pub use disk::{Disk, Identity, Part};
 pub use faults::{MakeFault, OpenFault};
 pub use files::{DiskFiles, Known};
-pub use making::make_files;
+pub use making::{make_files, make_marked_files, unmark};
 pub use opening::{open_for_hand, open_for_keeper};

@@ -3,13 +3,14 @@ use Rattle.guest_image.specs.Image.{ImageContents}
 use Rattle.std.proofs.Common.{ℕ, ◌∷◌, ◌++◌}
 use Rattle.requests.specs.Asking.{asked_again}
 use Rattle.process_world.specs.Worlds.{ProcessWorld}
-use Rattle.process_world.specs.Happenings.{Happens, AtKeeper, Loses, GoesLiveIn, HearsRequest, LeadsRound, Seals, HearsSaid, LacksMemory, Tells, Ends, Joins}
+use Rattle.process_world.specs.Happenings.{Happens, AtKeeper, Loses, Renews, GoesLiveIn, HearsRequest, LeadsRound, Seals, HearsSaid, LacksMemory, Tells, Ends, Joins}
 use Rattle.process_world.specs.Happenings.{Wants, Asks, AsksAgain, HearsAnswer, Prints, Comes, First, Then}
 use Rattle.process_world.specs.Promises.{Processes}
 use Rattle.process_world.specs.machinery.Tied.{IsTied}
 use Rattle.process_world.specs.machinery.Worded.{AreWorded}
 use Rattle.process_world.proofs.Beginning.{first_tied}
 use Rattle.process_world.proofs.Disks.{at_keeper, loses}
+use Rattle.process_world.proofs.Renewing.{renews}
 use Rattle.process_world.proofs.Granting.{goes_live}
 use Rattle.process_world.proofs.Hearing.{hears_said, lacks_memory}
 use Rattle.process_world.proofs.Rounds.{leads_round}
@@ -22,6 +23,7 @@ use Rattle.process_world.proofs.WordEvents.{first_worded, stays_worded}
 stays_tied : (w v : ProcessWorld) → IsTied w → Happens w v → IsTied v
 stays_tied w v is (AtKeeper keeper d e out at goes) = at_keeper w is keeper d e out at goes
 stays_tied w v is (Loses keeper) = loses w is keeper
+stays_tied w v is (Renews keeper term d given bytes at under granted before all) = renews w is keeper term d given bytes at under granted before all
 stays_tied w v is (GoesLiveIn term quorum given l new keepers need handed live behind none) =
     goes_live w is term quorum given l new keepers need handed live none
 stays_tied w v is (HearsRequest n old new request what at asked hears) = hears_request w is n old new request what at hears

@@ -78,6 +78,7 @@ module _ (image : ImageContents) (keepers need : ℕ) (w : ProcessWorld) (is : B
         sent = sym is.no_frames;
         standing = stands;
         said = λ a has hart. none_in w.said a is.none_said has;
+        only_said = λ term keeper hart none. refl;
         handed = λ h has. none_in w.handed h is.none_handed has;
         told = λ a has. none_in w.told a is.none_told has;
         heard = λ c t number word at had. none_at w.clients c t is.no_clients at;

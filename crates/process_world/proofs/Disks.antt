@@ -1,7 +1,8 @@
 -- What is done with a keeper's disk keeps the world tied, and so does that a keeper is lost.
 use Rattle.std.proofs.Common.{◌≡◌, inl, inr, ℕ, ◌≤◌, List, [], ◌∷◌, ◌++◌, Contains, Option, Some, None, refl, sym, ap, subst, ◌∙◌, arith, le_of_eq, le_trans}
-use Rattle.std.proofs.lemmas.List.Elements.{Contains-append_cases}
+use Rattle.std.proofs.lemmas.List.Elements.{Contains-append_left, Contains-append_right, Contains-append_cases}
 use Rattle.interleaving.specs.Lists.{put}
+use Rattle.interleaving.proofs.Cuts.{here}
 use Rattle.interleaving.proofs.Put.{same_or_not, put_same, put_other}
 use Rattle.ft_types.specs.Counts.{count_at}
 use Rattle.ft_types.specs.Guests.{GuestParts}
@@ -103,6 +104,14 @@ goes_out guest sent d e out term bytes KeeperEnds knows same = absurd cc
 goes_out guest sent d e out term bytes HandEnds knows same = absurd cc
 goes_out guest sent d e out term bytes (Crashes left begins were) knows same = absurd cc
 
+-- one position is said
+one_position : (p q : Position) → Says p ≡ Says q → p ≡ q
+one_position p q same = cc
+
+-- what is handed over is not said
+hands_nothing_said : (term : ℕ) (bytes : List ℕ) (p : Position) → Hands term bytes ≡ Says p → ⊥
+hands_nothing_said term bytes p same = absurd cc
+
 -- ---- events
 
 -- what events lead to comes
@@ -114,7 +123,7 @@ comes_by recorder guest quorum comes (Then before next) = theory.Then (comes_by 
 -- The keeper's disk is another, or gone: in the theory nothing but what there is of this keeper is another.
 module _ (w : ProcessWorld) (is : IsTied w) (keeper : ℕ) (d : Disk) (now : Option Disk) (v : Theory w is) (only : OnlyKeeper is.world v keeper d) where
   -- the disks, with this one
-  abbrev disks : ℕ → Option Disk
+  abbrev pub disks : ℕ → Option Disk
   disks = put w.disks keeper now
 
   -- this is the keeper's own
@@ -133,12 +142,29 @@ module _ (w : ProcessWorld) (is : IsTied w) (keeper : ℕ) (d : Disk) (now : Opt
         | inr other ↦ le_of_eq (sym (ap (λ f. f hart) ((only.others k other).acked u)))
       ]
 
+  -- and but for what is said there is no new one
+  abbrev pub IsSilent : List Acknowledgement → Type 0
+  IsSilent said =
+      (u hart : ℕ) → ((a : Acknowledgement) → Contains said a → a.term ≡ u → a.keeper ≡ keeper → ⊥) → v.acked u keeper hart ≡ is.world.acked u keeper hart
+
+  -- so nothing is acknowledged but what was said
+  only_said_now : (said : List Acknowledgement) → IsSilent said → (u k hart : ℕ) →
+      ((a : Acknowledgement) → Contains (said ++ w.said) a → a.term ≡ u → a.keeper ≡ k → ⊥) → v.acked u k hart ≡ 0
+  only_said_now said silent u k hart none =
+      let before : is.world.acked u k hart ≡ 0 = is.only_said u k hart (λ a has. none a (Contains-append_right said w.said a has)) in
+      elim (same_or_not keeper k) [
+        | inl here ↦
+            subst (λ n. n ≡ 0) (ap (λ k. v.acked u k hart) here)
+            (silent u hart (λ a has term own. none a (Contains-append_left said w.said a has) term (own ∙ here)) ∙ ap (λ k. is.world.acked u k hart) here ∙ before)
+        | inr other ↦ ap (λ f. f hart) ((only.others k other).acked u) ∙ before
+      ]
+
   -- and no frame
   still : (f : Frame) → Contains is.world.sent f → Contains v.sent f
   still f has = subst (λ fs. Contains fs f) (sym only.sent) has
 
   -- what this keeper handed over was given, and is given once
-  abbrev IsGivenOnce : Handed → Type 0
+  abbrev pub IsGivenOnce : Handed → Type 0
   IsGivenOnce h =
       (v.given h.term h.keeper ≡ is.world.given h.term h.keeper) ×
       ((e : Disk) → now ≡ Some e → (h.term ≤ e.files.fence) × (e.hand ≡ HasFenced h.term → ⊥))
@@ -155,12 +181,12 @@ module _ (w : ProcessWorld) (is : IsTied w) (keeper : ℕ) (d : Disk) (now : Opt
       ]
 
   -- the world with what others learned of it
-  with_lists : ComesIn w is v → ((e : Disk) → now ≡ Some e → StandsOn (guest_of w.image) v keeper e) →
+  pub with_lists : ComesIn w is v → ((e : Disk) → now ≡ Some e → StandsOn (guest_of w.image) v keeper e) →
       ((h : Handed) → Contains w.handed h → keeper ≡ h.keeper → IsGivenOnce h) → (said : List Acknowledgement) (handed : List Handed) →
-      ((a : Acknowledgement) → Contains said a → (hart : ℕ) → count_at a.counts hart ≤ v.acked a.term a.keeper hart) →
+      ((a : Acknowledgement) → Contains said a → (hart : ℕ) → count_at a.counts hart ≤ v.acked a.term a.keeper hart) → IsSilent said →
       ((h : Handed) → Contains handed h → IsGiven v (guest_of w.image) disks h) →
       IsTied (record w { disks = disks; said = said ++ w.said; handed = handed ++ w.handed })
-  with_lists comes stands once said handed all_said all_handed =
+  with_lists comes stands once said handed all_said silent all_handed =
       record {
         are_theory = is.are_theory;
         is_recorder = is.is_recorder;
@@ -185,6 +211,7 @@ module _ (w : ProcessWorld) (is : IsTied w) (keeper : ℕ) (d : Disk) (now : Opt
           | inl new ↦ all_said a new
           | inr was ↦ λ hart. le_trans (is.said a was hart) (more_acked a.term a.keeper hart)
         ];
+        only_said = only_said_now said silent;
         handed = λ h has. elim (Contains-append_cases handed w.handed h has) [
           | inl new ↦ all_handed h new
           | inr was ↦ given_still h (once h was) (is.handed h was)
@@ -224,15 +251,20 @@ module _ (w : ProcessWorld) (is : IsTied w) (keeper : ℕ) (d e : Disk) (out : O
   -- it is tied where what they learned is so in the theory
   learned : (said : List Acknowledgement) (handed : List Handed) →
       ((a : Acknowledgement) → Contains said a → (hart : ℕ) → count_at a.counts hart ≤ follows.world.acked a.term a.keeper hart) →
+      IsSilent w is keeper d (Some e) follows.world follows.only said →
       ((h : Handed) → Contains handed h → IsGiven follows.world (guest_of w.image) (put w.disks keeper (Some e)) h) → WithLists said handed
   learned =
       with_lists w is keeper d (Some e) follows.world follows.only
       (comes_by is.is_recorder.recorder (guest_of w.image) (quorum_of w) is.comes follows.events)
       (λ b same. subst (StandsOn (guest_of w.image) follows.world keeper) (some_same refl same) follows.stands) given_once
 
+  -- no position is said
+  not_said : ((p : Position) → out ≡ Says p → ⊥) → (said : List Acknowledgement) → IsSilent w is keeper d (Some e) follows.world follows.only said
+  not_said no said u hart none = follows.silent u hart (λ p same term. no p same)
+
   -- nothing is told to others
-  nothing_told : WithLists [] []
-  nothing_told = learned [] [] (λ a has. none_in [] a refl has) (λ h has. none_in [] h refl has)
+  nothing_told : ((p : Position) → out ≡ Says p → ⊥) → WithLists [] []
+  nothing_told no = learned [] [] (λ a has. none_in [] a refl has) (not_said no []) (λ h has. none_in [] h refl has)
 
   -- it is acknowledged up to a position
   says_so : (p : Position) → out ≡ Says p → WithLists (record { term = p.term; keeper = keeper; counts = p.counts } ∷ []) []
@@ -242,6 +274,7 @@ module _ (w : ProcessWorld) (is : IsTied w) (keeper : ℕ) (d e : Disk) (out : O
       (λ a has.
       subst (λ (a : Acknowledgement). (hart : ℕ) → count_at a.counts hart ≤ follows.world.acked a.term a.keeper hart) (only_one one a has)
       (subst (IsToldBy (guest_of w.image) follows.world keeper) same follows.told))
+      (λ u hart none. follows.silent u hart (λ q this term. none one (here one []) (ap (λ (q : Position). q.term) (one_position p q (sym same ∙ this)) ∙ term) refl))
       (λ h has. none_in [] h refl has)
 
   -- the log is handed over
@@ -251,7 +284,7 @@ module _ (w : ProcessWorld) (is : IsTied w) (keeper : ℕ) (d e : Disk) (out : O
       let told : IsToldBy (guest_of w.image) follows.world keeper (Hands term bytes) =
       subst (IsToldBy (guest_of w.image) follows.world keeper) same follows.told in
       let disks = put w.disks keeper (Some e) in
-      learned [] (one ∷ []) (λ a has. none_in [] a refl has)
+      learned [] (one ∷ []) (λ a has. none_in [] a refl has) (not_said (λ p this. hands_nothing_said term bytes p (sym same ∙ this)) [])
       (λ h has.
       subst (IsGiven follows.world (guest_of w.image) disks) (only_one one h has)
       (record {
@@ -266,7 +299,7 @@ module _ (w : ProcessWorld) (is : IsTied w) (keeper : ℕ) (d e : Disk) (out : O
 -- an act on a keeper's disk
 pub at_keeper : (w : ProcessWorld) → IsTied w → (keeper : ℕ) (d e : Disk) (out : Out) → w.disks keeper ≡ Some d → Goes (guest_of w.image) w.frames d e out →
     IsTied (with_out (record w { disks = put w.disks keeper (Some e) }) keeper out)
-at_keeper w is keeper d e Nothing at goes = nothing_told w is keeper d e Nothing at goes
+at_keeper w is keeper d e Nothing at goes = nothing_told w is keeper d e Nothing at goes (λ p same. absurd cc)
 at_keeper w is keeper d e (Says p) at goes = says_so w is keeper d e (Says p) at goes p refl
 at_keeper w is keeper d e (Hands term bytes) at goes = hands_over w is keeper d e (Hands term bytes) at goes term bytes refl
 
@@ -274,7 +307,7 @@ at_keeper w is keeper d e (Hands term bytes) at goes = hands_over w is keeper d 
 pub loses : (w : ProcessWorld) → IsTied w → (keeper : ℕ) → IsTied (record w { disks = put w.disks keeper None })
 loses w is keeper =
     with_lists w is keeper nothing_there None (theory.lost is.world keeper) only (theory.Then is.comes (theory.Lose keeper))
-    (λ b none. some_none none refl) (λ h has here. (refl, λ b none. some_none none refl)) [] [] (λ a has. none_in [] a refl has)
+    (λ b none. some_none none refl) (λ h has here. (refl, λ b none. some_none none refl)) [] [] (λ a has. none_in [] a refl has) (λ u hart none. refl)
     (λ h has. none_in [] h refl has)
   where
     -- nothing but its stores is another

@@ -6,6 +6,7 @@ pub mod Sealing
 pub mod Disks
 pub mod Beginning
 pub mod Giving
+pub mod Renewing
 pub mod Granting
 pub mod Releasing
 pub mod Noting

@@ -258,6 +258,7 @@ module _ (w : ProcessWorld) (is : IsTied w) where
             disks_stay (Books w.image.pages is.are_theory) (guest_of w.image) is.world v keeper d (is.standing keeper d there)
             (record { stores = refl; saved = refl; fence = refl; given = λ u. refl; acked = λ u. refl }) more;
         said = is.said;
+        only_said = is.only_said;
         handed = λ h has. let was = is.handed h has in given_stays is.world v (guest_of w.image) w.disks w.disks h refl more was.once was;
         told = all_told;
         heard = all_heard;

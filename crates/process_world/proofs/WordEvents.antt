@@ -14,7 +14,7 @@ use Rattle.requests.specs.declared.queue.TheConstants.{WORD_LIMIT}
 use Rattle.word_sequences.specs.Sequences.{sequence_of}
 use Rattle.leading.specs.Leaders.{AreInLimit, LeaderView}
 use Rattle.process_world.specs.Worlds.{Led, ProcessWorld, led_as}
-use Rattle.process_world.specs.Happenings.{Happens, AtKeeper, Loses, GoesLiveIn, HearsRequest, LeadsRound, Seals, HearsSaid, LacksMemory, Tells, Ends, Joins}
+use Rattle.process_world.specs.Happenings.{Happens, AtKeeper, Loses, Renews, GoesLiveIn, HearsRequest, LeadsRound, Seals, HearsSaid, LacksMemory, Tells, Ends, Joins}
 use Rattle.process_world.specs.Happenings.{Wants, Asks, AsksAgain, HearsAnswer, Prints}
 use Rattle.process_world.specs.Happenings.{OnlyHears, ended, with_out}
 use Rattle.process_world.specs.machinery.Tied.{IsTied}
@@ -99,6 +99,7 @@ hears_said_words asked old new only rest is =
 pub stays_worded : (w v : ProcessWorld) → IsTied w → IsTied v → AreWorded w.asked w.led → Happens w v → AreWorded v.asked v.led
 stays_worded w v is is_v words (AtKeeper keeper d e out at goes) = after_out (record w { disks = put w.disks keeper (Some e) }) keeper out words
 stays_worded w v is is_v words (Loses keeper) = words
+stays_worded w v is is_v words (Renews keeper term d given bytes at under granted before all) = words
 stays_worded w v is is_v words (GoesLiveIn term quorum given l new keepers need handed live behind none) =
     push_worded w.asked w.led (led_as l) words
     (inl (l, refl, begun w.asked l.primary.book l.queues (no_limits w.image.harts) live.live.unused behind (in_limit w v is is_v l refl words)))

@@ -1,5 +1,5 @@
 -- What may happen next: each is one call of a process, in the words of its contract, or a loss.
-use Rattle.std.specs.Prelude.{◌≡◌, ◌+◌, ℕ, List, [], ◌∷◌, ◌++◌, Contains, All, slice_get, slice_set, None, Some}
+use Rattle.std.specs.Prelude.{◌≡◌, ◌<◌, ◌≤◌, ◌+◌, ℕ, List, [], ◌∷◌, ◌++◌, Contains, All, slice_get, slice_set, None, Some}
 use Rattle.interleaving.specs.Lists.{put}
 use Rattle.ft_types.specs.declared.quorum.Quorum.{Quorum}
 use Rattle.guest_image.specs.Image.{ImageContents, guest_of}
@@ -8,11 +8,14 @@ use Rattle.fragment_codec.specs.declared.frame.Frame.TheVariants.{Opening}
 use Rattle.fragment_codec.specs.Streams.{Splits}
 use Rattle.log_pieces.specs.Pieces.{IsCut, book_log}
 use Rattle.log_join.specs.Coming.{IsJoinOf}
+use Rattle.log_join.specs.Stores.{StoreView}
+use Rattle.go_live.specs.Joined.{AreJoined}
+use Rattle.go_live.specs.Quorums.{AreEnough}
 use Rattle.primary.specs.Gating.{AreAllOffered, OffersMore}
 use Rattle.primary.specs.declared.released.Released.{Released}
 use Rattle.fenced_live.specs.declared.given.Given.{Given}
-use Rattle.keeper_disks.specs.Disks.{Disk, Out, Nothing, Says, Hands, Goes}
-use Rattle.leading.specs.Beginning.{GoesLiveGiven}
+use Rattle.keeper_disks.specs.Disks.{Away, Nobody, Disk, Out, Nothing, Says, Hands, Goes}
+use Rattle.leading.specs.Beginning.{GoesLiveGiven, givers_in, stores_in}
 use Rattle.leading.specs.Hearing.{Hears, LetsGo, LetsNothingGo, WithNoted}
 use Rattle.leading.specs.Leaders.{LeaderView, BeginBehind}
 use Rattle.leading.specs.Rounds.{IsRound}
@@ -40,6 +43,21 @@ pub record WasHanded (w : ProcessWorld) (term : ℕ) (g : Given) : Type 0 where
   pub there : Contains w.handed (record { keeper = g.keeper; term = term; bytes = bytes })
   pub splits : Splits bytes frames []
   pub join : IsJoinOf (guest_of w.image) frames g.store.now
+
+-- The bytes are frames that were sent, and their store is the join of all that enough keepers handed over to the term.
+pub record HasAllHanded (w : ProcessWorld) (term : ℕ) (given : List Given) (bytes : List ℕ) : Type 0 where
+  pub handed : All (WasHanded w term) given
+  pub enough : AreEnough w.keepers w.need (givers_in given)
+  pub store : StoreView
+  pub joined : AreJoined (guest_of w.image) (stores_in given) store
+  pub frames : List Frame
+  pub splits : Splits bytes frames []
+  pub sent : (f : Frame) → Contains frames f → Contains w.frames f
+  pub join : IsJoinOf (guest_of w.image) frames store
+
+-- a keeper's disk on which a log was made, with its fence
+abbrev pub made_with : List ℕ → ℕ → Disk
+made_with bytes fence = record { files = record { log = bytes; safe = bytes; fence = fence }; keeper = Away; hand = Nobody }
 
 abbrev pub led_by : ProcessWorld → ℕ → LeaderView → List Led
 led_by w n l = slice_set w.led n (led_as l)
@@ -77,6 +95,11 @@ pub data Happens (w : ProcessWorld) : ProcessWorld → Type 0 where
       Happens w (with_out (record w { disks = put w.disks keeper (Some e) }) keeper out)
   -- a keeper and all that it has on disk are gone for good
   Loses : (keeper : ℕ) → Happens w (record w { disks = put w.disks keeper None })
+  -- What a keeper had on disk is gone, and its number goes to a new log, with all that enough keepers handed over to a term, which its fence is at. The old log
+  -- acknowledged nothing in that term or a later one, and its fence is not above it.
+  Renews : (keeper term : ℕ) (d : Disk) (given : List Given) (bytes : List ℕ) → w.disks keeper ≡ Some d → d.files.fence ≤ term → 0 < term →
+      ((a : Acknowledgement) → Contains w.said a → a.keeper ≡ keeper → a.term < term) → HasAllHanded w term given bytes →
+      Happens w (record w { disks = put w.disks keeper (Some (made_with bytes term)) })
   -- `Leader::go_live`, from logs that were handed over to the term, which is granted once
   GoesLiveIn : (term : ℕ) (quorum : Quorum) (given : List Given) (l : LeaderView) → IsNotGranted w term → quorum.keepers ≡ w.keepers →
       quorum.need ≡ w.need → All (WasHanded w term) given → GoesLiveGiven w.image quorum term given l.primary l.gate →

@@ -103,6 +103,9 @@ pub record IsTied (w : ProcessWorld) : Type 0 where
   pub sent : world.sent ≡ w.frames
   pub standing : (keeper : ℕ) (d : Disk) → w.disks keeper ≡ Some d → StandsOn (guest_of w.image) world keeper d
   pub said : (a : Acknowledgement) → Contains w.said a → (hart : ℕ) → count_at a.counts hart ≤ world.acked a.term a.keeper hart
+  -- nothing is acknowledged but what was said
+  pub only_said : (term keeper hart : ℕ) → ((a : Acknowledgement) → Contains w.said a → a.term ≡ term → a.keeper ≡ keeper → ⊥) →
+      world.acked term keeper hart ≡ 0
   pub handed : (h : Handed) → Contains w.handed h → IsGiven world (guest_of w.image) w.disks h
   pub told : (a : Answer) → Contains w.told a → IsTold world.released a
   pub heard : AreHeard w
