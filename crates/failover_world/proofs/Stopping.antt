@@ -23,7 +23,7 @@ use Rattle.fenced_theory.proofs.Growing.{an_opening, some_none, grows_itself}
 use Rattle.fenced_theory.proofs.Fate.{keeps_less}
 use Rattle.fenced_theory.proofs.Stores.{see, see_bool}
 use Rattle.fenced_theory.proofs.Onward.{put_cases}
-use Rattle.fenced_theory.proofs.Giving.{HasStep, has_grows, position_has}
+use Rattle.fenced_theory.proofs.Giving.{HasStep, has_grows, position_has, held_itself}
 use Rattle.fenced_theory.proofs.Invariant.{Invariant}
 use Rattle.fenced_theory.proofs.Acking.{raised, raised_keeps, raised_reaches}
 use Rattle.fenced_theory.proofs.Events.{always, failover}
@@ -327,7 +327,10 @@ module _ {Book Fact : Type 0} (recorder : Recorder Book Fact) (guest : GuestPart
             let h = kept.has_saved keeper s is in
             let high : w.acked keeper hart ≤ c.keepers.acked w.now keeper hart = c.high keeper hart in
             has_grows recorder w.terms w.terms h.store s w.now hart (w.acked keeper hart - 1) (grows_itself recorder w.terms) h.below
+            (
+            held_itself recorder w.terms c.keepers.acked c.keepers.fence quorum h.store (c.low keeper)
             (kept.acks w.now keeper hart (w.acked keeper hart - 1) (omega (arith, some, high)) h.store h.is)
+            )
 
     -- none of its acknowledgements is below one before it
     pub never_lower : (keeper : ℕ) (s : StoreView) (p : Position) → w.stores keeper ≡ Some s → IsPosition s p → (hart : ℕ) →

@@ -45,11 +45,12 @@ module _ {Book Fact : Type 0} (recorder : Recorder Book Fact) (guest : GuestPart
       gives_on recorder w.terms w.terms w.acked w.acked w.fence higher m quorum u k s all below (v.given u k s is).gives
 
   -- so the new log holds what the one before it acknowledged
-  holds : (term hart step : ℕ) → step < w.acked term keeper hart → Holds recorder w.terms w.acked higher quorum all term hart step
+  holds : (term hart step : ℕ) → step < w.acked term keeper hart → Holds recorder w.terms w.acked higher quorum all keeper term hart step
   holds term hart step below =
       elim (cases_lt term u) [
         | inl less ↦
-            Renewed u chosen less enough (λ k in_quorum is_chosen. (gave k in_quorum is_chosen).fenced)
+            Renewed u chosen less (let f : put w.fence keeper u keeper ≡ u = put_same w.fence keeper keeper u refl in omega arith) enough
+            (λ k in_quorum is_chosen. (gave k in_quorum is_chosen).fenced)
             (λ k t h n in_quorum is_chosen lower acks. (gave k in_quorum is_chosen).has t h n lower acks)
         | inr over ↦ let none : w.acked term keeper hart ≡ 0 = silent term hart over in absurd (omega arith)
       ]
@@ -77,8 +78,9 @@ module _ {Book Fact : Type 0} (recorder : Recorder Book Fact) (guest : GuestPart
             λ term k hart step below a at.
             elim (same_or_not keeper k) [
               | inl same ↦
-                  subst (λ a. Holds recorder w.terms w.acked higher quorum a term hart step) (some_same (put_same w.saved keeper k (Some all) same) at)
-                  (holds term hart step (subst (λ k. step < w.acked term k hart) (sym same) below))
+                  subst (λ a. Holds recorder w.terms w.acked higher quorum a k term hart step) (some_same (put_same w.saved keeper k (Some all) same) at)
+                  (subst (λ k. Holds recorder w.terms w.acked higher quorum all k term hart step) same
+                  (holds term hart step (subst (λ k. step < w.acked term k hart) (sym same) below)))
               | inr ne ↦
                   holds_on recorder w.terms w.terms w.acked w.acked w.fence higher m quorum a a (below_itself a)
                   (v.acks term k hart step below a (sym (put_other w.saved keeper k (Some all) ne) ∙ at))

@@ -1,12 +1,13 @@
 -- What a log is filled with.
-use Rattle.std.proofs.Common.{◌≡◌, ◌<◌, ◌≤◌, ◌+◌, ℕ, List, [], ◌∷◌, ◌++◌, length, take, drop, get_or, Option, None, Some, refl, sym, ap, subst, ◌∙◌, append_assoc, append-nil}
+use Rattle.std.proofs.Common.{◌≡◌, inl, inr, ◌<◌, ◌≤◌, ◌+◌, ℕ, List, [], ◌∷◌, ◌++◌, length, take, drop, get_or, Contains, Option, None, Some, refl, sym, ap, subst, ◌∙◌, append_assoc, append-nil, arith}
 use Rattle.std.proofs.lemmas.List.{take_more, drop_more, take-append-drop}
+use Rattle.std.proofs.lemmas.List.Elements.{Contains-append_left, Contains-append_right, Contains-append_cases}
 use Rattle.std.proofs.Math.ListN.{drop_of_length-le}
 use Rattle.ft_types.specs.Guests.{GuestParts}
 use Rattle.fragment_codec.specs.declared.fault.FrameFault.{FrameFault}
 use Rattle.fragment_codec.specs.declared.frame.Frame.{Frame}
 use Rattle.fragment_codec.specs.Streams.{spelling, Splits}
-use Rattle.fragment_codec.proofs.streams.Splits.{splits_more, splits_on}
+use Rattle.fragment_codec.proofs.streams.Splits.{splits_none, splits_more, splits_on}
 use Rattle.log_join.specs.Answers.{answer_to}
 use Rattle.log_join.specs.Coming.{IsJoinOf}
 use Rattle.log_join.specs.Stores.{StoreView, IsJoin, alone, nothing}
@@ -14,7 +15,7 @@ use Rattle.stations.specs.Logs.{IsFrontOf}
 use Rattle.stations.proofs.Held.{come_one}
 use Rattle.log_mending.specs.Gathering.{IsGathered, StopsAt, put_of}
 use Rattle.log_mending.specs.Filling.{IsFaultOfFrame, IsFaultOfFrames, IsFaultOfLogs}
-use Rattle.log_mending.specs.Mending.{AreFrontOf, AreFronts, HasNoFrames, IsFilled, IsMended, IsNotMended, IsUnfit}
+use Rattle.log_mending.specs.Mending.{AreFrontOf, AreFronts, HasNoFrames, IsFilled, IsMended, IsNotMended, IsUnfit, IsWholeLog}
 use Rattle.log_mending.specs.declared.faults.MendFault.{MendFault}
 use Rattle.log_mending.specs.declared.faults.MendFault.TheVariants.{Files, Behind, Own, Other}
 use Rattle.log_mending.specs.declared.faults.Misfit.{Misfit}
@@ -25,6 +26,10 @@ pub fills_new : (guest : GuestParts) (front : List ℕ) (own given : List Frame)
     IsFilled guest front own (given ++ frame ∷ []) added new
 fills_new guest front own given fresh added old new frame joined e one f = record {
   more = f.more ++ frame ∷ [];
+  some = λ g has. elim (Contains-append_cases f.more (frame ∷ []) g has) [
+    | inl was ↦ Contains-append_left given (frame ∷ []) g (f.some g was)
+    | inr new ↦ Contains-append_right given (frame ∷ []) g new
+  ];
   splits =
       let bytes : front ++ added ≡ (front ++ fresh) ++ spelling frame =
       ap (λ (x : List ℕ). front ++ x) e ∙ sym (append_assoc front fresh (spelling frame)) in
@@ -44,6 +49,7 @@ pub fills_same : (guest : GuestParts) (front : List ℕ) (own given : List Frame
     IsJoin old (alone frame) new → new ≡ old → IsFilled guest front own given fresh old → IsFilled guest front own (given ++ frame ∷ []) fresh new
 fills_same guest front own given fresh old new frame joined e f = record {
   more = f.more;
+  some = λ g has. Contains-append_left given (frame ∷ []) g (f.some g has);
   splits = f.splits;
   same = subst (λ (s : StoreView). IsJoinOf guest (own ++ f.more) s) (sym e) f.same;
   all =
@@ -56,12 +62,25 @@ pub fills_none : (guest : GuestParts) (front : List ℕ) (own : List Frame) (sto
     IsFilled guest front own [] [] store
 fills_none guest front own store s j = record {
   more = [];
+  some = λ g (k, below, is). absurd (omega arith);
   splits =
       subst (λ (x : List ℕ). Splits x (own ++ []) []) (sym (append-nil front))
       (subst (λ (fs : List Frame). Splits front fs []) (sym (append-nil own)) s);
   same = subst (λ (fs : List Frame). IsJoinOf guest fs store) (sym (append-nil own)) j;
   all = subst (λ (fs : List Frame). IsJoinOf guest fs store) (sym (append-nil own)) j;
 }
+
+-- a log in which there was nothing
+pub whole_log : (guest : GuestParts) (others : List (List ℕ)) (given : List Frame) (added : List ℕ) (store : StoreView) → AreFronts others given →
+    IsFilled guest [] [] given added store → IsWholeLog guest others added
+whole_log guest others given added store fronts f =
+    record { given = given; fronts = fronts; frames = f.more; splits = f.splits; some = f.some; store = store; same = f.same; all = f.all }
+
+-- nothing is there at first
+pub fills_nothing : (guest : GuestParts) (fresh : List ℕ) (store : StoreView) → fresh ≡ [] → store ≡ nothing guest → IsFilled guest [] [] [] fresh store
+fills_nothing guest fresh store none new =
+    subst (λ (bytes : List ℕ). IsFilled guest [] [] [] bytes store) (sym none)
+    (subst (λ (s : StoreView). IsFilled guest [] [] [] [] s) (sym new) (fills_none guest [] [] (nothing guest) (splits_none []) refl))
 
 -- the front of one log more
 pub fronts_more : (logs : List (List ℕ)) (log : List ℕ) (given first : List Frame) → AreFronts logs given → AreFrontOf log first →

@@ -1,5 +1,5 @@
 -- What a log is mended to, and why it is not.
-use Rattle.std.specs.Prelude.{◌≡◌, ◌⊎◌, ℕ, List, [], ◌∷◌, ◌++◌, length, take, drop, Option}
+use Rattle.std.specs.Prelude.{◌≡◌, ◌⊎◌, ℕ, List, [], ◌∷◌, ◌++◌, length, take, drop, Contains, Option}
 use Rattle.ft_types.specs.Guests.{GuestParts}
 use Rattle.fragment_codec.specs.declared.fault.FrameFault.{FrameFault}
 use Rattle.fragment_codec.specs.declared.frame.Frame.{Frame}
@@ -38,10 +38,11 @@ AreFronts (log ∷ logs) frames = (first more : List Frame) × (frames ≡ first
 
 -- ---- a log that is mended
 
--- Behind the front of a log, which is its own frames, the bytes are some more frames, and those that were given added nothing else: the store of all that
+-- Behind the front of a log, which is its own frames, the bytes are some of the frames that were given, and the others added nothing: the store of all that
 -- was given is that of the log behind it.
 pub record IsFilled (guest : GuestParts) (front : List ℕ) (own given : List Frame) (added : List ℕ) (store : StoreView) : Type 0 where
   pub more : List Frame
+  pub some : (f : Frame) → Contains more f → Contains given f
   pub splits : Splits (front ++ added) (own ++ more) []
   pub same : IsJoinOf guest (own ++ more) store
   pub all : IsJoinOf guest (own ++ given) store
@@ -57,6 +58,17 @@ pub record IsMended (guest : GuestParts) (log : List ℕ) (others : List (List �
   pub fronts : AreFronts others given
   pub store : StoreView
   pub filled : IsFilled guest (take size log) own given added store
+
+-- A log with nothing in it is filled with frames of other logs, which are frames to their ends: with some of them, of which the others are repetitions.
+pub record IsWholeLog (guest : GuestParts) (others : List (List ℕ)) (bytes : List ℕ) : Type 0 where
+  pub given : List Frame
+  pub fronts : AreFronts others given
+  pub frames : List Frame
+  pub splits : Splits bytes frames []
+  pub some : (f : Frame) → Contains frames f → Contains given f
+  pub store : StoreView
+  pub same : IsJoinOf guest frames store
+  pub all : IsJoinOf guest given store
 
 -- the first of these frames that the store of those before it does not take
 pub record IsUnfit (guest : GuestParts) (frames : List Frame) (misfit : Misfit) : Type 0 where

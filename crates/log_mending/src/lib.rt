@@ -9,4 +9,4 @@ mod scanning;
 
 pub use checking::{Checked, check};
 pub use faults::{MendFault, Misfit};
-pub use mending::mend;
+pub use mending::{mend, renew};

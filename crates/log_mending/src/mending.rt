@@ -7,15 +7,15 @@ ghost use Rattle.fragment_codec.specs.Streams.{spelling, Splits};
 ghost use Rattle.log_join.specs.Answers.{answer_to};
 ghost use Rattle.log_join.specs.Stores.{IsJoin, alone};
 ghost use Rattle.log_mending.specs.Filling.{IsFaultOfFrame, IsFaultOfFrames, IsFaultOfLogs};
-ghost use Rattle.log_mending.specs.Mending.{AreFronts, IsFilled, IsMended, IsNotMended};
+ghost use Rattle.log_mending.specs.Mending.{AreFronts, IsFilled, IsMended, IsNotMended, IsWholeLog};
 ghost use Rattle.log_mending.specs.Telling.{IsRefused};
-ghost use Rattle.stations.specs.Acts.{SawLog, CutTo, Added, Synced, Does};
+ghost use Rattle.stations.specs.Acts.{SawLog, CutTo, Added, Synced, Fenced, Does};
 
 use crate::faults::{MendFault, Misfit};
 use crate::gathering::{Gathered, gather};
 use crate::scanning::has_frames;
 use fragment_codec::{FRAME_LIMIT, Frame, write_frame};
-use ft_types::{Guest, Memory, MemorySink};
+use ft_types::{Guest, Memory, MemorySink, Term};
 use log_join::{Put, Store};
 use stations::{FilesFault, KeeperFiles, LogFront, read_frames};
 use std::alloc::Global;
@@ -167,5 +167,36 @@ pub fn mend<F: KeeperFiles>(
     let log = files.read_log(alloc)?;
     let plan = plan_for(alloc, guest, &log, others)?;
     carry_out(files, &plan)?;
+    Ok(())
+}
+
+/// All that these logs have, of their frames each once.
+fn gather_all(alloc: Global, guest: Guest, others: &[Vec<u8>]) -> Result<Vec<u8>, MendFault>
+    ensures whole { IfOk result (λ bytes. IsWholeLog guest (map (λ log. log.items) others.now) bytes.items) }
+    ensures fault { IfErr result (λ f. IsFaultOfLogs guest [] (map (λ log. log.items) others.now) f) }
+{
+    let mut filling = Filling {
+        store: Store::new(alloc, guest),
+        fresh: Vec::new(alloc),
+    };
+    filling.add_logs(alloc, others)?;
+    Ok(filling.fresh)
+}
+
+/// Fills a log in which there is nothing with the frames at the fronts of logs that keepers handed over to a term, and then puts that term's fence.
+pub fn renew<F: KeeperFiles>(
+    alloc: Global,
+    guest: Guest,
+    files: &mut F,
+    others: &[Vec<u8>],
+    term: Term,
+) -> Result<(), MendFault>
+    ensures filled { OnOk result ((bytes : List ℕ) × IsWholeLog guest (map (λ log. log.items) others.now) bytes ×
+        Does (F.acts files.old) (F.acts files.new) (Added bytes ∷ Synced ∷ Fenced term ∷ [])) }
+{
+    let bytes = gather_all(alloc, guest, others)?;
+    files.add(&bytes)?;
+    files.sync()?;
+    files.add_fence(term)?;
     Ok(())
 }

@@ -260,11 +260,11 @@ module _ (w : ProcessWorld) (is : IsTied w) (keeper : ℕ) (d e : Disk) (out : O
 
   -- no position is said
   not_said : ((p : Position) → out ≡ Says p → ⊥) → (said : List Acknowledgement) → IsSilent w is keeper d (Some e) follows.world follows.only said
-  not_said no said u hart none = follows.silent u hart (λ p same term. no p same)
+  not_said never said u hart none = follows.silent u hart (λ p same term. never p same)
 
   -- nothing is told to others
   nothing_told : ((p : Position) → out ≡ Says p → ⊥) → WithLists [] []
-  nothing_told no = learned [] [] (λ a has. none_in [] a refl has) (not_said no []) (λ h has. none_in [] h refl has)
+  nothing_told never = learned [] [] (λ a has. none_in [] a refl has) (not_said never []) (λ h has. none_in [] h refl has)
 
   -- it is acknowledged up to a position
   says_so : (p : Position) → out ≡ Says p → WithLists (record { term = p.term; keeper = keeper; counts = p.counts } ∷ []) []
