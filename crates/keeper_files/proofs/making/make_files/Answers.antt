@@ -8,16 +8,16 @@ use Rattle.keeper_files.specs.declared.disk.Part.TheVariants.{Log, Fences}
 use Rattle.keeper_files.proofs.Results.{err_all}
 use Rattle.keeper_files.proofs.making.make_files.Goals as goal
 
-pub returns-in_err-make_both-clause-there : goal.returns-in_err-make_both-clause-there
-returns-in_err-make_both-clause-there g c =
+pub returns-in_err-log-clause-there : goal.returns-in_err-log-clause-there
+returns-in_err-log-clause-there g c =
     let old = g.D.Disk.deeds c.args.disk.now in
     let one = g.D.Disk.deeds c.look.new.disk in
     let new = g.D.Disk.deeds c.make_both.new.disk in
     let none = SawThere Log false ∷ SawThere Fences false ∷ SawMark false ∷ [] in
-    err_all c.from_residual-in_err-make_both.result _ (λ f same. (
+    err_all c.from_residual-in_err-log.result _ (λ f same. (
       none ++ Made Log false ∷ [],
       (tt, (tt, (tt, (tt, tt)))),
-      does_then old one new none (Made Log false ∷ []) c.in_ok-look.ensures.none (c.in_err-make_both.ensures.there same),
+      does_then old one new none (Made Log false ∷ []) c.in_ok-look.ensures.none (c.in_err-log.ensures.there same),
     ))
 
 pub returns-clause-made : goal.returns-clause-made
