@@ -36,6 +36,24 @@ pub(crate) struct Kept {
     files: LogFiles,
 }
 
+/// Whether frames are among what came.
+fn brings_frames(came: &[Event]) -> bool {
+    came.iter()
+        .any(|event| matches!(event, Event::Frames(_, _)))
+}
+
+/// Whether something is acknowledged.
+fn acknowledges(deeds: &[KeeperDeed]) -> bool {
+    deeds.iter().any(|deed| matches!(deed, KeeperDeed::Say(_)))
+}
+
+/// Tells outputs that frames came, of which nothing is acknowledged.
+fn hear_frames<H: KeeperHost>(rt: &H, outputs: &[Post]) {
+    for output in outputs {
+        output.hear_frames(rt);
+    }
+}
+
 /// Does a deed.
 fn carry_out<H: KeeperHost>(rt: &H, deed: &KeeperDeed, outputs: &[Post]) {
     match deed {
@@ -63,9 +81,13 @@ impl Kept {
     ) -> Result<Kept, Fault> {
         let Kept { keeping, files } = self;
         let mut files = files.on(rt);
+        let has_frames = brings_frames(&came);
         let (deeds, turned) = keeping.turn(rt.alloc(), &mut files, came);
         for deed in &deeds {
             carry_out(rt, deed, outputs);
+        }
+        if has_frames && !acknowledges(&deeds) {
+            hear_frames(rt, outputs);
         }
         Ok(Kept {
             keeping: turned?,

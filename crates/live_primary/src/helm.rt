@@ -6,6 +6,7 @@ use crate::bridge::Bridge;
 use crate::names::name_in;
 use crate::office::Office;
 use crate::outset::{Outset, set_out};
+use crate::ticking::begin_ticks;
 use ends::{Door, Event, Fault, Host, Pen, Receiver, refuse, row};
 use ft_types::Memory;
 use live_words::PrimaryWords;
@@ -177,6 +178,7 @@ fn lead_all<H: Host>(rt: &H, words: &PrimaryWords<'_>) -> Result<(), Fault> {
         open: words.requests.len() + words.acknowledgements.len(),
         office,
     };
+    begin_ticks(rt, &to)?;
     bridge.lead(rt, helm)?;
     for thread in threads {
         thread.join(rt);

@@ -114,6 +114,7 @@ impl Office {
                 Deed::Tell(answer) => self.tell(rt, &answer_line(&answer))?,
                 Deed::Full(hart) => self.tell(rt, &full_line(hart))?,
                 Deed::Anew(keeper) => self.begin_anew(rt, keeper)?,
+                Deed::Resend(keeper) => self.resend(rt, keeper)?,
                 Deed::HasRead(keeper, extent) => self.note_read(keeper, extent),
                 Deed::AnswersRead => self.note_answers_read(),
             }
@@ -193,15 +194,28 @@ impl Office {
         Ok(Some(post.pen()?))
     }
 
-    /// Sends all frames to a keeper once more.
-    fn begin_anew<R: AllocGlobal + Wait>(&mut self, rt: &R, keeper: Keeper) -> Result<(), Memory> {
+    /// The output by which a keeper is sent frames.
+    fn post_to(&mut self, keeper: Keeper) -> Option<&mut Post> {
         let index = if self.keepers.len() == 1 {
             0
         } else {
             keeper.index()
         };
-        match self.keepers.get_mut(index) {
+        self.keepers.get_mut(index)
+    }
+
+    /// Sends all frames to a keeper once more.
+    fn begin_anew<R: AllocGlobal + Wait>(&mut self, rt: &R, keeper: Keeper) -> Result<(), Memory> {
+        match self.post_to(keeper) {
             Some(post) => post.begin_anew(rt),
+            None => Ok(()),
+        }
+    }
+
+    /// Sends all frames to a keeper once more, where all were written that it was sent.
+    fn resend<R: AllocGlobal + Wait>(&mut self, rt: &R, keeper: Keeper) -> Result<(), Memory> {
+        match self.post_to(keeper) {
+            Some(post) => post.begin_anew_if_written(rt),
             None => Ok(()),
         }
     }

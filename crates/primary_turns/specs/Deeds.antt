@@ -8,7 +8,7 @@ use Rattle.leading.specs.Telling.{told_in}
 use Rattle.leading.specs.declared.heard.Heard.{Heard}
 use Rattle.leading.specs.declared.heard.Heard.TheVariants as heard
 use Rattle.primary_turns.specs.declared.deeds.Deed.{Deed}
-use Rattle.primary_turns.specs.declared.deeds.Deed.TheVariants.{Send, Tell, Full, HasRead, AnswersRead}
+use Rattle.primary_turns.specs.declared.deeds.Deed.TheVariants.{Send, Tell, Full, HasRead, AnswersRead, Resend}
 use Rattle.primary_turns.specs.declared.deeds.Extent.{Extent}
 
 -- to what was to be done this is added
@@ -43,6 +43,10 @@ IsBehindLast told hart number = (last : ℕ) × (slice_get told hart ≡ Some (S
 -- it is told of this keeper alone that it has read something, or nothing is told
 abbrev pub AreRead : ℕ → List Deed → Type 0
 AreRead keeper deeds = (deeds ≡ []) ⊎ ((extent : Extent) × (deeds ≡ HasRead keeper extent ∷ []))
+
+-- some keepers are sent all frames once more, and nothing else is done
+abbrev pub AreResends : List Deed → Type 0
+AreResends deeds = (keepers : List ℕ) × (deeds ≡ map Resend keepers)
 
 -- it is told that a client has read all answers, or nothing is told
 abbrev pub AreAnswersRead : List Deed → Type 0

@@ -71,6 +71,8 @@ pub enum Deed {
     Anew(Keeper),
     /// This steers: the keeper has read all that was sent, or all but the last of it.
     HasRead(Keeper, Extent),
+    /// This steers: the keeper lacks some of what it was sent, and is sent all frames once more unless it is still being sent them.
+    Resend(Keeper),
     /// This steers: a client has read all answers that were told.
     AnswersRead,
 }

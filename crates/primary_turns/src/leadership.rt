@@ -12,6 +12,7 @@ use crate::read::Sent;
 use crate::said::Said;
 use crate::taking::{Notes, take_one};
 use crate::told::Told;
+use attendance::Attendance;
 use ft_types::{Count, Memory};
 use leading::{Leader, Spacing};
 use std::alloc::Global;
@@ -92,6 +93,7 @@ impl Leadership {
         let notes = Notes {
             told: Told::new(alloc)?,
             sent: Sent::new(),
+            attendance: Attendance::new(),
             pace: Pace::new(),
         };
         Ok(Leadership { leader, notes })

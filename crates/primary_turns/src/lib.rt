@@ -5,6 +5,7 @@ mod deeds;
 mod leadership;
 mod pace;
 mod read;
+mod resending;
 mod said;
 mod taking;
 mod telling;

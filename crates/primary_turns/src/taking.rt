@@ -10,9 +10,11 @@ ghost use Rattle.primary_turns.specs.declared.said.Said.TheVariants as said;
 use crate::deeds::Deed;
 use crate::pace::Pace;
 use crate::read::Sent;
+use crate::resending::resend_due;
 use crate::said::Said;
 use crate::telling::{tell_heard, tell_released};
 use crate::told::Told;
+use attendance::Attendance;
 use ft_types::{Hart, Memory};
 use leading::{Came, Heard, Leader};
 use std::alloc::Global;
@@ -25,6 +27,7 @@ pub(crate) struct Notes {
     pub(crate) told: Told,
     /// This steers, and so do those below.
     pub(crate) sent: Sent,
+    pub(crate) attendance: Attendance,
     pub(crate) pace: Pace,
 }
 
@@ -99,18 +102,21 @@ fn take_request(
     hear(alloc, leader, notes, deeds, request)
 }
 
-/// Notes what a keeper has read, as far as its acknowledgement tells.
+/// Notes that a keeper is heard, what it has, and what it has read, as far as its acknowledgement tells.
 fn note_read(
     leader: &Leader,
     sent: &Sent,
+    attendance: &mut Attendance,
     deeds: &mut Vec<Deed>,
     acknowledgement: &Acknowledgement,
 ) -> Result<(), Memory>
     ensures { OnOk result (Adds deeds.old.items deeds.new.items (AreRead acknowledgement.now.keeper)) }
 {
+    attendance.hear(acknowledgement.keeper);
     if acknowledgement.term != leader.term() {
         return Ok(());
     }
+    attendance.acknowledge(acknowledgement.keeper, &acknowledgement.counts);
     match sent.read_by(acknowledgement) {
         Some(extent) => Ok(deeds.push(Deed::HasRead(acknowledgement.keeper, extent))?),
         None => Ok(()),
@@ -130,7 +136,13 @@ fn take_acknowledgement(
 {
     let before = leader.released().len();
     leader.acknowledge(alloc, acknowledgement)?;
-    note_read(leader, &notes.sent, deeds, acknowledgement)?;
+    note_read(
+        leader,
+        &notes.sent,
+        &mut notes.attendance,
+        deeds,
+        acknowledgement,
+    )?;
     tell_released(
         &mut notes.told,
         deeds,
@@ -159,7 +171,12 @@ pub(crate) fn take_one(
             Ok(true)
         }
         Said::Again(keeper) => {
+            notes.attendance.ask(*keeper);
             deeds.push(Deed::Anew(*keeper))?;
+            Ok(true)
+        }
+        Said::Tick => {
+            resend_due(&mut notes.attendance, &notes.sent, deeds)?;
             Ok(true)
         }
     }
