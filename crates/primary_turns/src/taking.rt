@@ -7,15 +7,15 @@ ghost use Rattle.primary_turns.specs.Deeds.{Adds, AreAnswersRead, AreRead, noted
 ghost use Rattle.primary_turns.specs.Turns.{ComesAgain, HearsRequest, IsBusy, IsKnown, Takes, seen};
 ghost use Rattle.primary_turns.specs.declared.said.Said.TheVariants as said;
 
+use crate::attending::attend;
 use crate::deeds::Deed;
 use crate::pace::Pace;
 use crate::read::Sent;
-use crate::resending::resend_due;
 use crate::said::Said;
 use crate::telling::{tell_heard, tell_released};
 use crate::told::Told;
 use attendance::Attendance;
-use ft_types::{Hart, Memory};
+use ft_types::{Hart, Memory, Term};
 use leading::{Came, Heard, Leader};
 use std::alloc::Global;
 use std::result::Result;
@@ -102,7 +102,18 @@ fn take_request(
     hear(alloc, leader, notes, deeds, request)
 }
 
-/// Notes that a keeper is heard, what it has, and what it has read, as far as its acknowledgement tells.
+/// Notes that a keeper is heard, and what it has in the term.
+fn note_heard(term: Term, attendance: &mut Attendance, acknowledgement: &Acknowledgement) {
+    let keeper = acknowledgement.keeper;
+    attendance.hear(keeper);
+    if acknowledgement.term == term {
+        attendance.acknowledge(keeper, &acknowledgement.counts);
+    } else if acknowledgement.term > term {
+        attendance.leave(keeper, acknowledgement.term);
+    }
+}
+
+/// Notes that a keeper is heard, and what it has read, as far as its acknowledgement tells.
 fn note_read(
     leader: &Leader,
     sent: &Sent,
@@ -112,11 +123,10 @@ fn note_read(
 ) -> Result<(), Memory>
     ensures { OnOk result (Adds deeds.old.items deeds.new.items (AreRead acknowledgement.now.keeper)) }
 {
-    attendance.hear(acknowledgement.keeper);
+    note_heard(leader.term(), attendance, acknowledgement);
     if acknowledgement.term != leader.term() {
         return Ok(());
     }
-    attendance.acknowledge(acknowledgement.keeper, &acknowledgement.counts);
     match sent.read_by(acknowledgement) {
         Some(extent) => Ok(deeds.push(Deed::HasRead(acknowledgement.keeper, extent))?),
         None => Ok(()),
@@ -176,7 +186,8 @@ pub(crate) fn take_one(
             Ok(true)
         }
         Said::Tick => {
-            resend_due(&mut notes.attendance, &notes.sent, deeds)?;
+            let waits = leader.kept() > 0;
+            attend(alloc, &mut notes.attendance, &notes.sent, waits, deeds)?;
             Ok(true)
         }
     }
