@@ -22,9 +22,9 @@ pub enum Note {
     /// It hears so many again, which is enough.
     Enough(u8),
     /// It waits for the answer of this number for long.
-    Unanswered(usize),
+    Unanswered(u64),
     /// The answer of this number came, behind a long wait.
-    Answered(usize),
+    Answered(u64),
 }
 
 impl Display for Note {

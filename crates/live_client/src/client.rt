@@ -55,7 +55,7 @@ struct LongWait {
     /// When an answer was printed last.
     since: Instant,
     /// The number of the next one.
-    number: usize,
+    number: u64,
     /// Whether it was noted that none came.
     is_noted: bool,
 }
