@@ -42,6 +42,8 @@ struct Next {
     acknowledgement: Option<Acknowledgement>,
     /// Whether something was acknowledged.
     has_acknowledged: bool,
+    /// Whether what is written may be lost: into a file it is not.
+    is_fifo: bool,
     /// Whether what was acknowledged last is to be written once more.
     repeats: bool,
     /// Whether all frames are to be asked for.
@@ -109,7 +111,7 @@ impl Next {
 
     /// Whether all frames are asked for from time to time.
     fn lacks(&self) -> bool {
-        self.deaf > 0 || !self.has_acknowledged
+        self.deaf > 0 || (self.is_fifo && !self.has_acknowledged)
     }
 
     /// How many milliseconds go by before all frames are asked for the next time.
@@ -132,7 +134,7 @@ impl Next {
 
     /// Looks behind so many milliseconds in which nothing was to be written.
     fn look(&mut self, time: u64) {
-        self.repeats = self.has_acknowledged;
+        self.repeats = self.is_fifo && self.has_acknowledged;
         if !self.lacks() {
             return;
         }
@@ -190,6 +192,7 @@ impl Tray {
             next: Mutex::new(Next {
                 acknowledgement: None,
                 has_acknowledged: false,
+                is_fifo: false,
                 repeats: false,
                 asks: false,
                 deaf: 0,
@@ -301,10 +304,11 @@ impl Tray {
     }
 
     /// Begins a connection: the first one, and each while an input is at fault, by asking for all frames.
-    fn begin<R: Wait>(&self, rt: &R, file: File) -> Result<(), End> {
+    fn begin<R: Wait>(&self, rt: &R, file: File, is_fifo: bool) -> Result<(), End> {
         let mut connection = self.connection.lock(rt);
         let mut next = self.next.lock(rt);
         next.end = None;
+        next.is_fifo = is_fifo;
         let is_deaf = next.deaf > 0;
         drop(next);
         connection.file = Some(file);
@@ -321,7 +325,7 @@ impl Tray {
         file: File,
         attempts: &mut Attempts,
     ) -> Result<(), End> {
-        self.begin(rt, file)?;
+        self.begin(rt, file, attempts.comes_again)?;
         for _ in rt.forever() {
             attempts.go_well();
             self.wait(rt)?;
