@@ -319,6 +319,11 @@ elif [ -x "$live" ] && command -v bash > /dev/null; then
         fail 'processes whose power fails' < "$work/drills"
     fi
     drills 'paths that are torn, removed, or read by nobody' paths.sh
+    if command -v socat > /dev/null; then
+        drills 'links that break' breaks.sh
+    else
+        echo "left out links that break, since there is no socat"
+    fi
 fi
 
 # Each row of refused file calls with three of them, and what is changed by chance for five seconds.

@@ -270,7 +270,8 @@ def one(live, seed, number, guests, at):
         data = times(chance, lines_changed, contents("log.fences"), files["image"])
         with open("log.fences", "wb") as file:
             file.write(data)
-    answer = call(live, words, SECONDS)
+    status, out, err = call(live, words, SECONDS)
+    answer = status, out, re.sub(rb"(?m)^note .*\n", b"", err)
     fault = re.match(rb"fault (file|\w+( \d+ [a-z]+| [a-z]+)?)", answer[2])
     return words[0] if words[0] in ("keeper", "hand", "primary", "client") else "other", (fault.group().decode() if fault else "no fault"), otherwise(words, files, answer)
 

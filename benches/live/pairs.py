@@ -43,9 +43,9 @@ class Pair:
         return os.path.join(self.folder, name)
 
     def faults(self, name):
-        """What a process has said on standard error."""
+        """The faults that a process has told on standard error."""
         with open(self.at(f"{name}.faults")) as file:
-            return file.read()
+            return "".join(line for line in file if not line.startswith("note "))
 
     def start(self, name, *words, out=None):
         """Starts a process, which says its faults into a file with its name."""

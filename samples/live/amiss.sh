@@ -32,6 +32,9 @@ cd "$work" || exit 2
 
 pass() { passed=$((passed + 1)); }
 
+# faults FILE..: the lines of these files that are no notes.
+faults() { grep -hv '^note ' "$@"; }
+
 # fail WHAT: counts it, and shows what standard input has of it.
 fail() {
     failed=$((failed + 1))
@@ -59,7 +62,7 @@ ends() {
     if runs "$2"; then fail "$1: it ends" < "$4"; else
         wait "$2"
         is "$1: status" 1 "$?"
-        is "$1: line" "$3" "$(cat "$4")"
+        is "$1: line" "$3" "$(faults "$4")"
     fi
 }
 
@@ -209,7 +212,7 @@ wait "$client"
 # Frames at fault come by another way: a keeper goes on with those that come by its first.
 printf 'VFx' > frames.0.b
 has faults.0 'fault input 1 frame 2'
-is 'frames at fault' 'fault input 1 frame 2' "$(cat faults.0)"
+is 'frames at fault' 'fault input 1 frame 2' "$(faults faults.0)"
 : > faults.0
 stop "${keeper[2]}"
 ask 'its keeper goes on, and one is gone'
@@ -234,7 +237,34 @@ cp handed.1 copy.1
 cp handed.2 copy.2
 lead 2 '' "${handed[@]}"
 ask 'the next primary'
-is 'keepers and primaries have no fault' '' "$(cat faults.*)"
+is 'keepers and primaries have no fault' '' "$(faults faults.*)"
+
+# Two of three keepers are killed while a client asks: the primary and the client note it in some two seconds, and then that they are back.
+# notes WHAT FILE LINE..: whether the file has each line soon.
+notes() {
+    local what=$1 file=$2 line
+    shift 2
+    for line in "$@"; do
+        has "$file" "$line"
+        if grep -qx "$line" "$file"; then pass; else fail "$what: $line" < "$file"; fi
+    done
+}
+notes 'a process begins' faults.primary 'note leads 1' 'note leads 2'
+notes 'a process begins' faults.1 'note keeps 1'
+for k in 0 1; do stop "${keeper[$k]}"; done
+since=${EPOCHREALTIME/./}
+echo 03070001 >> words
+asked=$((asked + 1))
+timeout 20 "$live" client words 8 300 to in from out > answers 2> faults.client &
+client=$!
+notes 'keepers are gone' faults.primary 'note keeper 0 lost' 'note keeper 1 lost' 'note few 1'
+notes 'keepers are gone' faults.client "note unanswered $((asked - 1))"
+is 'it is noted in some two seconds' yes "$([ $((${EPOCHREALTIME/./} - since)) -lt 2500000 ] && echo yes)"
+for k in 0 1; do keep "$k"; done
+notes 'keepers are back' faults.primary 'note keeper 0 back' 'note keeper 1 back' 'note enough [23]'
+notes 'keepers are back' faults.client "note answered $((asked - 1))"
+wait "$client"
+is 'the client ends' "0 number $((asked - 1)) word a0070000" "$? $(tail -n 1 answers)"
 
 # Two primaries of one term, since what was handed over was copied: keepers take no second frame with a key. The other one's last request is another
 # word, since for the same one it may well write the same frames.
@@ -266,7 +296,7 @@ says() {
     shift 3
     "$live" "$@" > said 2> err < /dev/null
     is "$what: status" "$status" "$?"
-    is "$what: line" "$line" "$(cat err)"
+    is "$what: line" "$line" "$(faults err)"
 }
 printf '0 5 word 01070011\n' > script
 "$workbench" run "$image" script 1000 frames.own > /dev/null
@@ -430,7 +460,7 @@ refuses() {
     : > none
     "$live" primary "$image" 7 2 2 in none out none to none from none with "$@" 2> err
     is "$what: status" 1 "$?"
-    is "$what: line" "$line" "$(cat err)"
+    is "$what: line" "$line" "$(faults err)"
 }
 # as_handed K FILE: what keeper K of two who both must hold an answer would hand over to term 7, if the file were its log.
 as_handed() {
@@ -467,7 +497,7 @@ refuses 'the other one' 'fault live 1' handed.too
 : > told
 : > sent
 "$live" primary "$image" 7 2 2 in none out told to sent from none with handed handed.too 2> err
-is 'both of them' '0 ' "$? $(cat err)"
+is 'both of them' '0 ' "$? $(faults err)"
 { seal "$image" "pair 2 2 $pair"; seal "$image" "handed 7 0 $(wc -c < log.0)" | tr 7 8; cat log.0; } > handed
 refuses 'a seal that is not its own' 'fault handed 0 line' handed
 
@@ -489,9 +519,9 @@ make_log 1 b
 "$live" hand "$image" 0 a 7 > handed
 "$live" hand "$image" 1 b 7 > handed.too
 "$live" primary "$image" 7 3 3 in none out none to none from none with handed 2> err
-is 'three of three in place of two' '1 fault handed 0 quorum' "$? $(cat err)"
+is 'three of three in place of two' '1 fault handed 0 quorum' "$? $(faults err)"
 "$live" primary "$image" 7 3 2 in none out told to sent from none with handed handed.too 2> err
-is 'two of three' '0 ' "$? $(cat err)"
+is 'two of three' '0 ' "$? $(faults err)"
 
 echo "$passed passed, $failed failed"
 [ "$failed" = 0 ]

@@ -152,7 +152,7 @@ carried() {
     same "round $1: the answers, with $window under way" "$at/client.wanted" "$at/answers"
     outputs "$at" "$at/outputs"
     same "round $1: each request stands once in the logs" "$at/client.wanted" "$at/outputs"
-    cat "$at/faults.client" "$at/faults.primary" > "$at/faults"
+    faults "$at/faults.client" "$at/faults.primary" > "$at/faults"
     if [ -s "$at/faults" ]; then fail "round $1: a fault" < "$at/faults"; else pass; fi
     wc -l < "$at/answers" >> "$work/tally"
     rm -rf "$at"

@@ -33,6 +33,9 @@ fail() {
     sed -n '1,20s/^/    /p'
 }
 
+# faults FILE..: the lines of these files that are no notes.
+faults() { grep -hv '^note ' "$@"; }
+
 # same WHAT WANTED GOT: whether two files are one.
 same() {
     if cmp -s "$2" "$3"; then pass; else fail "$1" < <(diff "$2" "$3"); fi

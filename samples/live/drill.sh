@@ -82,7 +82,7 @@ killed() {
     same "round $1: the answers, with $window under way" "$at/client.wanted" "$at/answers"
     outputs "$at" "$at/outputs"
     same "round $1: each request stands once in the logs" "$at/client.wanted" "$at/outputs"
-    cat "$at/faults.client" "$at/faults.primary" > "$at/faults"
+    faults "$at/faults.client" "$at/faults.primary" > "$at/faults"
     if [ -s "$at/faults" ]; then fail "round $1: a fault" < "$at/faults"; else pass; fi
     wc -l < "$at/answers" >> "$work/tally"
     rm -rf "$at"
@@ -160,7 +160,7 @@ refuses() {
     "$live" "$@" > "$work/out" 2> "$work/err" < /dev/null
     got=$?
     is "$what: status" "$status" "$got"
-    is "$what: line" "$line" "$(cat "$work/err")"
+    is "$what: line" "$line" "$(faults "$work/err")"
 }
 
 # Files as inputs and outputs are read and written once, and a primary and a client end.

@@ -32,6 +32,9 @@ done
 
 pass() { passed=$((passed + 1)); }
 
+# faults FILE..: the lines of these files that are no notes.
+faults() { grep -hv '^note ' "$@"; }
+
 # fail WHAT: counts it, and shows what standard input has of it.
 fail() {
     failed=$((failed + 1))
@@ -178,7 +181,7 @@ round() {
         over='^$'
         if [ "$k" = "$victim" ]; then over='^fault input 0 frame 1$'; fi
         grep "$over" "$at/faults.$k" >> "$work/passed.over"
-        if grep -v "$over" "$at/faults.$k" > "$at/others.$k"; then fail "round $1: keeper $k has a fault" < "$at/others.$k"; else pass; fi
+        if faults "$at/faults.$k" | grep -v "$over" > "$at/others.$k"; then fail "round $1: keeper $k has a fault" < "$at/others.$k"; else pass; fi
     done
 }
 
@@ -189,7 +192,7 @@ refuses() {
     "$live" "$@" > "$work/out" 2> "$work/err" < /dev/null
     got=$?
     is "$what: status" "$status" "$got"
-    is "$what: line" "$line" "$(cat "$work/err")"
+    is "$what: line" "$line" "$(faults "$work/err")"
 }
 
 cut_line() { head -n "$1" "$2" | tail -n 1 | sed 's/ [0-9a-f]*$//'; }
@@ -309,13 +312,13 @@ if cmp -s "$work/other.log" "$work/new.3"; then pass; else fail 'the log is left
 refuses 'an input that is not there' 1 "fault file $work/none" keeper "$image" 0 "$work/new.4" from "$work/none" to "$work/acks"
 refuses 'an output that is full' 1 'fault file /dev/full' keeper "$image" 0 "$work/new.5" from "$work/waits" to /dev/full
 "$live" hand "$image" 0 "$work/new.5" 1 > /dev/full 2> "$work/err"
-is 'standard output that is full' 'fault write' "$(cat "$work/err")"
+is 'standard output that is full' 'fault write' "$(faults "$work/err")"
 (
     trap '' XFSZ
     ulimit -f 1
     exec "$live" keeper "$image" 0 "$work/new.6" from "$work/run.log" to /dev/null
 ) 2> "$work/err"
-is 'a disk that is full' "fault file $work/new.6" "$(cat "$work/err")"
+is 'a disk that is full' "fault file $work/new.6" "$(faults "$work/err")"
 refuses 'a log that failed' 1 'fault log failed' keeper "$image" 0 "$work/new.6" from "$work/run.log" to "$work/acks"
 refuses 'a log that failed, handed over' 1 'fault log failed' hand "$image" 0 "$work/new.6" 1
 rm "$work/new.6.failed"

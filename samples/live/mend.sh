@@ -30,6 +30,9 @@ cd "$work" || exit 2
 
 pass() { passed=$((passed + 1)); }
 
+# faults FILE..: the lines of these files that are no notes.
+faults() { grep -hv '^note ' "$@"; }
+
 # fail WHAT: counts it, and shows what standard input has of it.
 fail() {
     failed=$((failed + 1))
@@ -48,7 +51,7 @@ says() {
     shift 3
     timeout 20 "$live" "$@" > out 2> err
     got=$?
-    is "$what" "$status $line" "$got $(cat err)"
+    is "$what" "$status $line" "$got $(faults err)"
 }
 
 # make K LOG [FRAMES]: makes keeper K's log, of a pair of three, with the bytes of a file.

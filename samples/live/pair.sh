@@ -19,6 +19,7 @@ at=$(mktemp -d)
 # Ends what this script started, and nothing else.
 finish() {
     for process in $(jobs -rp); do { kill -9 "$process" && wait "$process"; } 2> /dev/null || true; done
+    grep -sv '^note ' "$at/notes" >&2 || true
     rm -rf "$at"
 }
 trap finish EXIT
@@ -30,13 +31,14 @@ fi
 cd "$at"
 mkfifo in out frames.0 frames.1 frames.2 acks.0 acks.1 acks.2
 : > words
+: > notes
 
 # lead TERM K..: these keepers hand over to the term, and a primary leads it.
 lead() {
     term=$1
     shift
     for k in "$@"; do "$live" hand "$image" "$k" "log.$k" "$term" > "handed.$k"; done
-    "$live" primary "$image" "$term" 3 2 in in out out to frames.0 frames.1 frames.2 from acks.0 acks.1 acks.2 with "handed.$1" "handed.$2" &
+    "$live" primary "$image" "$term" 3 2 in in out out to frames.0 frames.1 frames.2 from acks.0 acks.1 acks.2 with "handed.$1" "handed.$2" 2>> notes &
     primary=$!
 }
 
@@ -65,7 +67,7 @@ ask_lines() {
 pair=$(od -An -N8 -tx8 /dev/urandom | tr -d ' ')
 for k in 0 1 2; do
     "$live" make "$image" "$k" 3 2 "$pair" "log.$k"
-    "$live" keeper "$image" "$k" "log.$k" from "frames.$k" to "acks.$k" &
+    "$live" keeper "$image" "$k" "log.$k" from "frames.$k" to "acks.$k" 2>> notes &
 done
 asks=ask_words
 case $guest in

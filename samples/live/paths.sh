@@ -78,18 +78,18 @@ stop "${keeper[1]}"
 ask 'a keeper that was paused is heard again' '' 2003 30
 stop "$primary"
 
-# The FIFOs of a site are removed, whose primary is gone: keepers say once that theirs fail, and go on at the other site.
+# The FIFOs of a site are removed, and then its primary is gone: keepers say once that theirs fail, and go on at the other site.
 begin removed .a .b
 lead 1 .a 0 1
 ask 'at the first site' .a 50
+rm in.a out.a frames.*.a acks.*.a
 stop "$primary"
 sleep 0.5
-rm in.a out.a frames.*.a acks.*.a
 lead 2 .b 0 1
 ask 'paths of another site are removed' .b 100
 for k in 0 1 2; do is "keeper $k runs" yes "$(runs "${keeper[$k]}" && echo yes)"; done
 sleep 1
-is 'the path is told once' 'fault file acks.0.a' "$(cat faults.0)"
+is 'the path is told once' 'fault file acks.0.a' "$(faults faults.0)"
 stop "$primary"
 
 # The path to a keeper is removed, which is gone.
@@ -99,7 +99,7 @@ ask 'a primary with all paths' '' 50
 stop "${keeper[2]}"
 rm frames.2
 ask 'a path to one keeper is removed' '' 100
-is 'the path is told' 'fault file frames.2' "$(cat faults.primary)"
+is 'the path is told' 'fault file frames.2' "$(faults faults.primary)"
 mkfifo frames.2
 keep 2
 sleep 1.5

@@ -122,7 +122,7 @@ for number in $(seq "$rounds"); do
     round
     is "round $number: answers that are lost, and that are missing" '0 0' "$lost $missing"
     wc -l < answers.before >> "$work/tally"
-    is "round $number: faults" '' "$(cat faults.* 2> /dev/null)"
+    is "round $number: faults" '' "$(faults faults.* 2> /dev/null)"
     rm -f faults.*
 done
 

@@ -34,24 +34,19 @@ trap 'exit 1' INT TERM
 # fifos NAME..: those that are not there yet.
 fifos() { for name in "$@"; do [ -p "$name" ] || mkfifo "$name" 2> /dev/null || [ -p "$name" ]; done; }
 
-# broke SAID: whether a line broke that had carried, by what socat said; one of which an end was closed did not.
-broke() { grep -q 'data transfer loop' "$1" && grep -qE 'reset by peer|timed out' "$1"; }
-
-# link FROM TO FIFO: socat in a process group of its own, over and over. What was under way in a line that broke is lost: a keeper that has its FIFO begins anew then, so that
-# it is sent everything again.
+# link FROM TO: socat in a process group of its own, over and over.
 link() {
     set -m
     while :; do
-        socat -d -d -u "$1" "$2" 2> "$3.said" || true
-        case $3 in frames.* | acks.*) if broke "$3.said"; then kill "$(cat keeper)" 2> /dev/null || true; fi ;; esac
+        socat -u "$1" "$2" 2> /dev/null || true
         sleep 0.05
     done &
     set +m
 }
 
 # heard PORT FIFO, said FIFO ADDRESS PORT: what comes to a port goes into a FIFO, and what comes out of one to an address.
-heard() { link "TCP-LISTEN:$1,reuseaddr,$alive" "OPEN:$2,wronly" "$2"; }
-said() { link "OPEN:$1,rdonly" "TCP:$2:$3,connect-timeout=2,$alive" "$1"; }
+heard() { link "TCP-LISTEN:$1,reuseaddr,$alive" "OPEN:$2,wronly"; }
+said() { link "OPEN:$1,rdonly" "TCP:$2:$3,connect-timeout=2,$alive"; }
 
 # names WORD N..: WORD.N for each N.
 names() {
@@ -81,21 +76,9 @@ links() {
     fi
 }
 
-keeper() {
-    local status=143
-    fifos $(names frames "${leaders[@]}") $(names acks "${leaders[@]}")
-    while [ "$status" = 143 ]; do
-        "$LIVE" keeper "$IMAGE" "$1" log from $(names frames "${leaders[@]}") to $(names acks "${leaders[@]}") &
-        echo $! > keeper
-        status=0
-        wait $! || status=$?
-    done
-    return "$status"
-}
-
 run() {
     links "$1"
-    keeper "$1"
+    "$LIVE" keeper "$IMAGE" "$1" log from $(names frames "${leaders[@]}") to $(names acks "${leaders[@]}")
 }
 
 make() { "$LIVE" make "$IMAGE" "$1" "${#keepers[@]}" "$NEED" "$PAIR" log; }

@@ -8,6 +8,7 @@ mod faults;
 mod files;
 mod host;
 mod listening;
+mod notes;
 mod posting;
 mod unread;
 
@@ -18,4 +19,5 @@ pub use faults::{Fault, Frames, FramesFault, NamedFile, file_fault, name_at, ref
 pub use files::{RemovedFile, is_fifo, read_file, remove_file, sync_folder};
 pub use host::{Host, Paths};
 pub use listening::{Listening, Relief, listen_all};
+pub use notes::{Note, note};
 pub use posting::{Post, Writer, begin_posts, leave_all};

@@ -251,6 +251,19 @@ impl Post {
         self.unread.clear_before();
     }
 
+    /// Has the connection begin anew, where all that was left is written in it and whoever reads lacks some all the same.
+    pub fn begin_anew_if_written<R: Wait>(&mut self, rt: &R) -> Result<(), Memory> {
+        let is_written = match self.connection.try_lock() {
+            Some(connection) => connection.file.is_some() && connection.done == self.left,
+            None => false,
+        };
+        if is_written {
+            self.begin_anew(rt)
+        } else {
+            Ok(())
+        }
+    }
+
     /// Has the connection begin anew.
     pub fn begin_anew<R: Wait>(&mut self, rt: &R) -> Result<(), Memory> {
         self.order_end(rt, End::Anew)

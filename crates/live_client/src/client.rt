@@ -8,8 +8,8 @@ use asking::{Told, WordsFault, read_words, told_line};
 use client_turns::{Client, ClientCame, ClientDeed, ClientEnd};
 use crossbeam_channel::RecvTimeoutError;
 use ends::{
-    Door, Event, Fault, Host, Keeps, Listening, NamedFile, Post, Reads, Receiver, Waiting, Writer,
-    begin_posts, file_fault, leave_all, listen_all, read_file, row, tell,
+    Door, Event, Fault, Host, Keeps, Listening, NamedFile, Note, Post, Reads, Receiver, Waiting,
+    Writer, begin_posts, file_fault, leave_all, listen_all, note, read_file, row, tell,
 };
 use ft_types::Memory;
 use live_words::ClientWords;
@@ -24,6 +24,9 @@ use wire::{LineText, Request, request_line};
 
 /// How many pieces of answers wait at the most.
 const ROOM: usize = 512;
+
+/// Behind how many milliseconds without an answer it is noted that none came.
+const LONG: u64 = 2000;
 
 /// Leaves lines as they are: what they say is heard in their order.
 #[derive(Drop)]
@@ -43,6 +46,45 @@ struct Shell {
     patience: Duration,
     /// When its patience began.
     since: Instant,
+    wait: LongWait,
+}
+
+/// Whether it waits for long for an answer.
+#[derive(Drop)]
+struct LongWait {
+    /// When an answer was printed last.
+    since: Instant,
+    /// The number of the next one.
+    number: u64,
+    /// Whether it was noted that none came.
+    is_noted: bool,
+}
+
+impl LongWait {
+    /// An answer is printed, which came at this time.
+    fn end<H: Host>(&mut self, rt: &H, told: &Told, since: Instant) {
+        if self.is_noted {
+            note(rt, &Note::Answered(told.number));
+        }
+        self.since = since;
+        self.number = told.number.saturating_add(1);
+        self.is_noted = false;
+    }
+
+    /// Looks at this time. How long the next look may be put off, where there is to be one.
+    fn look<H: Host>(&mut self, rt: &H, now: Instant) -> Option<Duration> {
+        if self.is_noted {
+            return None;
+        }
+        let long = Duration::from_millis(LONG);
+        let waited = now.duration_since(self.since);
+        if waited < long {
+            return Some(long.saturating_sub(waited));
+        }
+        note(rt, &Note::Unanswered(self.number));
+        self.is_noted = true;
+        None
+    }
 }
 
 /// The words of these bytes.
@@ -98,11 +140,17 @@ impl Shell {
         let mut threads = Vec::new(rt.alloc());
         let posts = begin_posts(rt, 0, &words.requests, Keeps::Last, &to, &mut threads)?;
         let _none = listen_all(rt, 0, &words.answers, Listening::Plain, Whole, &to)?;
+        let since = now(rt)?;
         Ok(Shell {
             events,
             posts,
             patience: Duration::from_millis(words.millis),
-            since: now(rt)?,
+            since,
+            wait: LongWait {
+                since,
+                number: 0,
+                is_noted: false,
+            },
         })
     }
 
@@ -123,17 +171,25 @@ impl Shell {
     }
 
     /// Waits for what comes next, as long as its patience lasts.
-    fn wait<H: Host>(&self, rt: &H) -> Result<ClientCame, Fault> {
-        let waited = now(rt)?.duration_since(self.since);
-        if waited >= self.patience {
-            return Ok(ClientCame::Late);
+    fn wait<H: Host>(&mut self, rt: &H) -> Result<ClientCame, Fault> {
+        for _ in rt.forever() {
+            let now = now(rt)?;
+            let waited = now.duration_since(self.since);
+            if waited >= self.patience {
+                return Ok(ClientCame::Late);
+            }
+            let patience = self.patience.saturating_sub(waited);
+            let time = match self.wait.look(rt, now) {
+                Some(time) => patience.min(time),
+                None => patience,
+            };
+            match self.events.recv_timeout(rt, time) {
+                Ok(event) => return came_of(event),
+                Err(RecvTimeoutError::Timeout) => {}
+                Err(_) => return Err(Fault::Memory),
+            }
         }
-        let time = self.patience.saturating_sub(waited);
-        match self.events.recv_timeout(rt, time) {
-            Ok(event) => came_of(event),
-            Err(RecvTimeoutError::Timeout) => Ok(ClientCame::Late),
-            Err(_) => Err(Fault::Memory),
-        }
+        Err(Fault::Memory)
     }
 
     /// Does a deed. Why the client ends, where that is what it does.
@@ -144,7 +200,10 @@ impl Shell {
     ) -> Result<Option<ClientEnd>, Fault> {
         match deed {
             ClientDeed::Ask(request) => self.send(rt, request)?,
-            ClientDeed::Print(told) => self.print(rt, told)?,
+            ClientDeed::Print(told) => {
+                self.wait.end(rt, told, self.since);
+                self.print(rt, told)?;
+            }
             ClientDeed::BePatient => self.since = now(rt)?,
             ClientDeed::End(end) => return Ok(Some(*end)),
         }

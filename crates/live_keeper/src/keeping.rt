@@ -10,7 +10,7 @@ use crate::listening::listen_all;
 use crate::names::name_in_keeper;
 use crate::posting::{Post, begin_posts, posts};
 use crate::turns::Keeping;
-use ends::{Door, Fault, Host, Paths, row, tell};
+use ends::{Door, Fault, Host, Note, Paths, note, row, tell};
 use ft_types::{Guest, Keeper};
 use keeper_files::open_for_keeper;
 use live_primary::read_image_file;
@@ -34,6 +34,24 @@ impl<R: Paths + AllocGlobal + Eprint + Wait + Copy> KeeperHost for R {}
 pub(crate) struct Kept {
     keeping: Keeping,
     files: LogFiles,
+}
+
+/// Whether frames are among what came.
+fn brings_frames(came: &[Event]) -> bool {
+    came.iter()
+        .any(|event| matches!(event, Event::Frames(_, _)))
+}
+
+/// Whether something is acknowledged.
+fn acknowledges(deeds: &[KeeperDeed]) -> bool {
+    deeds.iter().any(|deed| matches!(deed, KeeperDeed::Say(_)))
+}
+
+/// Tells outputs that frames came, of which nothing is acknowledged.
+fn hear_frames<H: KeeperHost>(rt: &H, outputs: &[Post]) {
+    for output in outputs {
+        output.hear_frames(rt);
+    }
 }
 
 /// Does a deed.
@@ -63,9 +81,13 @@ impl Kept {
     ) -> Result<Kept, Fault> {
         let Kept { keeping, files } = self;
         let mut files = files.on(rt);
+        let has_frames = brings_frames(&came);
         let (deeds, turned) = keeping.turn(rt.alloc(), &mut files, came);
         for deed in &deeds {
             carry_out(rt, deed, outputs);
+        }
+        if has_frames && !acknowledges(&deeds) {
+            hear_frames(rt, outputs);
         }
         Ok(Kept {
             keeping: turned?,
@@ -119,6 +141,7 @@ fn keep_all<H: Host>(rt: &H, words: &KeeperWords<'_>) -> Result<u8, Fault>
     let guest = read_image_file(rt, words.image)?.guest();
     let mut files = open(rt, guest, words)?;
     let station = begin(rt, guest, words.keeper, &mut files)?;
+    note(rt, &Note::Keeps(words.keeper));
     let (to, events) = row(rt.alloc(), ROOM)?;
     let outputs = posts(rt.alloc(), guest, words.keeper, words.outputs.len())?;
     let desk = Arc::new(rt.alloc(), Desk::new(rt.alloc(), events, outputs)?)?;

@@ -1,5 +1,5 @@
-//! A thread for each output: it opens the path and writes what was acknowledged last, and asks for all frames where an input is at fault. Where nobody reads
-//! any more it opens the path again.
+//! A thread for each output: it opens the path and writes what was acknowledged last, and from time to time once more, or asks for all frames. Where nobody
+//! reads any more it opens the path again.
 
 use crate::events::Event;
 use ends::{Attempts, Door, Fault, Host, NamedFile, Taker, bring, is_fifo};
@@ -24,10 +24,14 @@ enum End {
     Done,
 }
 
+/// How many milliseconds go by at the most before what was acknowledged last is written once more: a line that broke may have lost it.
+const BEAT: u64 = 500;
+
 /// How many milliseconds an input is at fault before all frames are asked for, the first time.
 const FIRST_PAUSE: u64 = 100;
 
-/// How many milliseconds go by before they are asked for again: twice as many each time, up to the second number, while the input stays at fault.
+/// How many milliseconds go by before they are asked for again: twice as many each time, up to the second number, while the input stays at fault, or nothing
+/// comes and nothing was acknowledged.
 const PAUSE: u64 = 1000;
 
 const LONGEST_PAUSE: u64 = 32_000;
@@ -36,12 +40,20 @@ const LONGEST_PAUSE: u64 = 32_000;
 #[derive(Drop)]
 struct Next {
     acknowledgement: Option<Acknowledgement>,
+    /// Whether something was acknowledged.
+    has_acknowledged: bool,
+    /// Whether what is written may be lost: into a file it is not.
+    is_fifo: bool,
+    /// Whether what was acknowledged last is to be written once more.
+    repeats: bool,
     /// Whether all frames are to be asked for.
     asks: bool,
     /// How many inputs are at fault.
     deaf: usize,
-    /// How many milliseconds go by before frames are asked for.
+    /// How many milliseconds go by before frames are asked for while an input is at fault.
     pause: u64,
+    /// How many milliseconds went by since they were asked for, or came.
+    waited: u64,
     is_last: bool,
     /// How the connection ended, where it was not its thread that met that.
     end: Option<End>,
@@ -78,20 +90,71 @@ fn write(file: &mut File, line: &Line) -> Result<(), End> {
 impl Next {
     /// Whether there is something to be written.
     fn is_filled(&self) -> bool {
-        self.asks || self.acknowledgement.is_some()
+        self.asks || self.repeats || self.acknowledgement.is_some()
+    }
+
+    /// What is acknowledged takes the place of what was.
+    fn fill(&mut self, acknowledgement: Acknowledgement) {
+        self.acknowledgement = Some(acknowledgement);
+        if !self.has_acknowledged {
+            self.has_acknowledged = true;
+            self.pause = FIRST_PAUSE;
+        }
+    }
+
+    /// Hears that frames came: they need not be asked for, unless an input is at fault.
+    fn hear_frames(&mut self) {
+        if self.deaf == 0 {
+            self.waited = 0;
+        }
+    }
+
+    /// Whether all frames are asked for from time to time.
+    fn lacks(&self) -> bool {
+        self.deaf > 0 || (self.is_fifo && !self.has_acknowledged)
+    }
+
+    /// How many milliseconds go by before all frames are asked for the next time.
+    fn pause(&self) -> u64 {
+        if self.deaf > 0 {
+            self.pause
+        } else {
+            self.pause.max(PAUSE)
+        }
+    }
+
+    /// How many milliseconds may go by before the next look.
+    fn time(&self) -> u64 {
+        if self.lacks() {
+            self.pause().saturating_sub(self.waited).clamp(1, BEAT)
+        } else {
+            BEAT
+        }
+    }
+
+    /// Looks behind so many milliseconds in which nothing was to be written.
+    fn look(&mut self, time: u64) {
+        self.repeats = self.is_fifo && self.has_acknowledged;
+        if !self.lacks() {
+            return;
+        }
+        self.waited = self.waited.saturating_add(time);
+        if self.waited >= self.pause() {
+            self.ask();
+        }
     }
 
     /// Asks for all frames, and waits longer before it does so again.
     fn ask(&mut self) {
-        if self.deaf > 0 {
-            self.asks = true;
-            self.pause = self.pause.saturating_mul(2).clamp(PAUSE, LONGEST_PAUSE);
-        }
+        self.asks = true;
+        self.waited = 0;
+        self.pause = self.pause.saturating_mul(2).clamp(PAUSE, LONGEST_PAUSE);
     }
 
     /// Hears that one more input is at fault.
     fn deafen(&mut self) {
         self.deaf = self.deaf.saturating_add(1);
+        self.waited = 0;
     }
 
     /// Hears that one input less is at fault.
@@ -128,9 +191,13 @@ impl Tray {
             guest,
             next: Mutex::new(Next {
                 acknowledgement: None,
+                has_acknowledged: false,
+                is_fifo: false,
+                repeats: false,
                 asks: false,
                 deaf: 0,
                 pause: FIRST_PAUSE,
+                waited: 0,
                 is_last: false,
                 end: None,
             }),
@@ -144,7 +211,12 @@ impl Tray {
     }
 
     fn fill<R: Wait>(&self, rt: &R, acknowledgement: Acknowledgement) {
-        self.next.lock(rt).acknowledgement = Some(acknowledgement);
+        self.next.lock(rt).fill(acknowledgement);
+    }
+
+    /// Hears that frames came, of which nothing was acknowledged.
+    fn hear_frames<R: Wait>(&self, rt: &R) {
+        self.next.lock(rt).hear_frames();
     }
 
     /// Hears that one more input is at fault, or one less.
@@ -159,17 +231,20 @@ impl Tray {
         self.filled.notify_one();
     }
 
-    /// Takes what is to be written: whether all frames are asked for, and what is acknowledged.
-    fn take<R: Wait>(&self, rt: &R) -> (bool, Option<Acknowledgement>) {
+    /// Takes what is to be written, if anything: whether all frames are asked for, and what is acknowledged anew.
+    fn take<R: Wait>(&self, rt: &R) -> Option<(bool, Option<Acknowledgement>)> {
         let mut next = self.next.lock(rt);
-        let asks = next.asks;
-        let acknowledgement = next.acknowledgement;
+        if !next.is_filled() {
+            return None;
+        }
+        let taken = (next.asks, next.acknowledgement);
         next.asks = false;
+        next.repeats = false;
         next.acknowledgement = None;
-        (asks, acknowledgement)
+        Some(taken)
     }
 
-    /// Waits until something is to be written, or for the end of the connection. While an input is at fault, all frames are asked for from time to time.
+    /// Waits until something is to be written, which is something from time to time, or for the end of the connection.
     fn wait<R: Wait + Clock>(&self, rt: &R) -> Result<(), End> {
         let mut next = self.next.lock(rt);
         for _ in rt.forever() {
@@ -182,15 +257,13 @@ impl Tray {
             if next.is_last {
                 return Err(End::Done);
             }
-            if next.deaf == 0 {
-                next = self.filled.wait(rt, next);
-                continue;
-            }
-            let pause = Duration::from_millis(next.pause);
-            let (waited, time) = self.filled.wait_timeout(rt, next, pause);
+            let millis = next.time();
+            let (waited, time) = self
+                .filled
+                .wait_timeout(rt, next, Duration::from_millis(millis));
             next = waited;
             if time.timed_out() {
-                next.ask();
+                next.look(millis);
             }
         }
         Ok(())
@@ -199,18 +272,16 @@ impl Tray {
     /// Writes what there is to be written.
     fn write_all<R: Wait>(&self, rt: &R, connection: &mut Connection) -> Result<(), End> {
         for _ in rt.forever() {
-            let (asks, acknowledgement) = self.take(rt);
+            let Some((asks, acknowledgement)) = self.take(rt) else {
+                return Ok(());
+            };
             if asks {
                 connection.write_again()?;
             }
-            match acknowledgement {
-                Some(acknowledgement) => {
-                    connection.last = Some(acknowledgement_line(&self.guest, &acknowledgement));
-                    connection.write_last()?;
-                }
-                None if !asks => return Ok(()),
-                None => {}
+            if let Some(acknowledgement) = acknowledgement {
+                connection.last = Some(acknowledgement_line(&self.guest, &acknowledgement));
             }
+            connection.write_last()?;
         }
         Ok(())
     }
@@ -233,10 +304,11 @@ impl Tray {
     }
 
     /// Begins a connection: the first one, and each while an input is at fault, by asking for all frames.
-    fn begin<R: Wait>(&self, rt: &R, file: File) -> Result<(), End> {
+    fn begin<R: Wait>(&self, rt: &R, file: File, is_fifo: bool) -> Result<(), End> {
         let mut connection = self.connection.lock(rt);
         let mut next = self.next.lock(rt);
         next.end = None;
+        next.is_fifo = is_fifo;
         let is_deaf = next.deaf > 0;
         drop(next);
         connection.file = Some(file);
@@ -253,7 +325,7 @@ impl Tray {
         file: File,
         attempts: &mut Attempts,
     ) -> Result<(), End> {
-        self.begin(rt, file)?;
+        self.begin(rt, file, attempts.comes_again)?;
         for _ in rt.forever() {
             attempts.go_well();
             self.wait(rt)?;
@@ -355,6 +427,11 @@ impl Post {
     /// Hears that one more input is at fault, or one less: while one is, all frames are asked for from time to time.
     pub(crate) fn hear<R: Wait>(&self, rt: &R, is_deaf: bool) {
         self.to.hear(rt, is_deaf);
+    }
+
+    /// Hears that frames came, of which nothing was acknowledged.
+    pub(crate) fn hear_frames<R: Wait>(&self, rt: &R) {
+        self.to.hear_frames(rt);
     }
 
     /// Nothing is left any more: its thread ends once all is written.

@@ -6,7 +6,8 @@ use crate::bridge::Bridge;
 use crate::names::name_in;
 use crate::office::Office;
 use crate::outset::{Outset, set_out};
-use ends::{Door, Event, Fault, Host, Pen, Receiver, refuse, row};
+use crate::ticking::begin_ticks;
+use ends::{Door, Event, Fault, Host, Note, Pen, Receiver, note, refuse, row};
 use ft_types::Memory;
 use live_words::PrimaryWords;
 use primary_turns::{Deed, Leadership, Next, Said};
@@ -171,12 +172,14 @@ fn lead_all<H: Host>(rt: &H, words: &PrimaryWords<'_>) -> Result<(), Fault> {
     let bridge = Arc::new(rt.alloc(), Bridge::new(rt.alloc(), events)?)?;
     let to = Door::new(to, Arc::try_clone(&bridge)?);
     let (office, threads) = Office::open(rt, words, guest, frames, removed, &to)?;
+    begin_ticks(rt, &to, office.findings()?)?;
     let helm = Helm {
-        leadership: Some(Leadership::new(rt.alloc(), leader)?),
+        leadership: Some(Leadership::new(rt.alloc(), leader, words.quorum)?),
         deeds: Vec::new(rt.alloc()),
         open: words.requests.len() + words.acknowledgements.len(),
         office,
     };
+    note(rt, &Note::Leads(words.term));
     bridge.lead(rt, helm)?;
     for thread in threads {
         thread.join(rt);

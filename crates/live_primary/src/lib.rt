@@ -9,6 +9,7 @@ mod office;
 mod outset;
 mod pairs;
 mod reading;
+mod ticking;
 
 pub use helm::lead;
 pub use outset::read_image_file;

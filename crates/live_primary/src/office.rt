@@ -3,6 +3,8 @@
 ghost use Rattle.std.specs.Prelude.{◌≡◌, map};
 
 use crate::reading::Reader;
+use crate::ticking::Findings;
+use attendance::Finding;
 use ends::{
     Door, Event, Host, Keeps, Listening, Pen, Post, Relief, RemovedFile, Taker, Writer,
     begin_posts, leave_all, listen_all,
@@ -32,6 +34,8 @@ pub(crate) struct Office {
     for_clients: Relief,
     /// The same for a keeper's input.
     for_keepers: Relief,
+    /// Where it is left what ticks found.
+    findings: Findings,
 }
 
 /// The thread of an input, which writes answers.
@@ -98,8 +102,14 @@ impl Office {
             writing: None,
             for_clients,
             for_keepers,
+            findings: Findings::new(rt.alloc())?,
         };
         Ok((office, threads))
+    }
+
+    /// Where it is left what ticks found.
+    pub(crate) fn findings(&self) -> Result<Findings, Memory> {
+        self.findings.copy()
     }
 
     /// Does what is to be done, in its order.
@@ -114,6 +124,7 @@ impl Office {
                 Deed::Tell(answer) => self.tell(rt, &answer_line(&answer))?,
                 Deed::Full(hart) => self.tell(rt, &full_line(hart))?,
                 Deed::Anew(keeper) => self.begin_anew(rt, keeper)?,
+                Deed::Attend(finding) => self.attend(rt, finding)?,
                 Deed::HasRead(keeper, extent) => self.note_read(keeper, extent),
                 Deed::AnswersRead => self.note_answers_read(),
             }
@@ -193,15 +204,36 @@ impl Office {
         Ok(Some(post.pen()?))
     }
 
-    /// Sends all frames to a keeper once more.
-    fn begin_anew<R: AllocGlobal + Wait>(&mut self, rt: &R, keeper: Keeper) -> Result<(), Memory> {
+    /// The output by which a keeper is sent frames.
+    fn post_to(&mut self, keeper: Keeper) -> Option<&mut Post> {
         let index = if self.keepers.len() == 1 {
             0
         } else {
             keeper.index()
         };
-        match self.keepers.get_mut(index) {
+        self.keepers.get_mut(index)
+    }
+
+    /// Sends all frames to a keeper once more.
+    fn begin_anew<R: AllocGlobal + Wait>(&mut self, rt: &R, keeper: Keeper) -> Result<(), Memory> {
+        match self.post_to(keeper) {
             Some(post) => post.begin_anew(rt),
+            None => Ok(()),
+        }
+    }
+
+    /// Attends to what a tick found.
+    fn attend<R: AllocGlobal + Wait>(&mut self, rt: &R, finding: Finding) -> Result<(), Memory> {
+        match finding {
+            Finding::Lacks(keeper) => self.resend(rt, keeper),
+            other => self.findings.leave(rt, other),
+        }
+    }
+
+    /// Sends all frames to a keeper once more, where all were written that it was sent.
+    fn resend<R: AllocGlobal + Wait>(&mut self, rt: &R, keeper: Keeper) -> Result<(), Memory> {
+        match self.post_to(keeper) {
+            Some(post) => post.begin_anew_if_written(rt),
             None => Ok(()),
         }
     }

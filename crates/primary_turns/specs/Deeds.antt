@@ -7,8 +7,9 @@ use Rattle.wire.specs.declared.requests.Request.{Request}
 use Rattle.leading.specs.Telling.{told_in}
 use Rattle.leading.specs.declared.heard.Heard.{Heard}
 use Rattle.leading.specs.declared.heard.Heard.TheVariants as heard
+use Rattle.attendance.specs.declared.finding.Finding.{Finding}
 use Rattle.primary_turns.specs.declared.deeds.Deed.{Deed}
-use Rattle.primary_turns.specs.declared.deeds.Deed.TheVariants.{Send, Tell, Full, HasRead, AnswersRead}
+use Rattle.primary_turns.specs.declared.deeds.Deed.TheVariants.{Send, Tell, Full, HasRead, AnswersRead, Attend}
 use Rattle.primary_turns.specs.declared.deeds.Extent.{Extent}
 
 -- to what was to be done this is added
@@ -43,6 +44,10 @@ IsBehindLast told hart number = (last : ℕ) × (slice_get told hart ≡ Some (S
 -- it is told of this keeper alone that it has read something, or nothing is told
 abbrev pub AreRead : ℕ → List Deed → Type 0
 AreRead keeper deeds = (deeds ≡ []) ⊎ ((extent : Extent) × (deeds ≡ HasRead keeper extent ∷ []))
+
+-- it is attended to what is found of keepers, and nothing else is done
+abbrev pub AreFindings : List Deed → Type 0
+AreFindings deeds = (findings : List Finding) × (deeds ≡ map Attend findings)
 
 -- it is told that a client has read all answers, or nothing is told
 abbrev pub AreAnswersRead : List Deed → Type 0

@@ -16,7 +16,7 @@ use Rattle.leading.specs.Rounds.{IsRound}
 use Rattle.leading.specs.declared.heard.Heard.{Heard}
 use Rattle.leading.specs.declared.heard.Heard.TheVariants as heard
 use Rattle.leading.specs.declared.inputs.Spacing.{Spacing}
-use Rattle.primary_turns.specs.Deeds.{AreAnswersRead, AreRead, IsBehindLast, deeds_of, noted, sends, tells}
+use Rattle.primary_turns.specs.Deeds.{AreAnswersRead, AreFindings, AreRead, IsBehindLast, deeds_of, noted, sends, tells}
 use Rattle.primary_turns.specs.declared.deeds.Deed.{Deed}
 use Rattle.primary_turns.specs.declared.deeds.Deed.TheVariants.{Anew}
 use Rattle.primary_turns.specs.declared.said.Said.{Said}
@@ -57,6 +57,7 @@ abbrev pub Becomes : LeadershipView → Said → LeaderView → List Deed → Ty
 Becomes old (said.Request request) new deeds = HearsRequest old.leader request new deeds ⊎ ((new ≡ old.leader) × IsKnown old.told request deeds)
 Becomes old (said.Acknowledgement a) new deeds = HearsSaid old.leader a new deeds
 Becomes old (said.Again keeper) new deeds = (new ≡ old.leader) × (deeds ≡ Anew keeper ∷ [])
+Becomes old said.Tick new deeds = (new ≡ old.leader) × AreFindings deeds
 
 pub record Takes (old : LeadershipView) (what : Said) (new : LeadershipView) (deeds : List Deed) : Type 0 where
   pub becomes : Becomes old what new.leader deeds

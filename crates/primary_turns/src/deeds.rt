@@ -4,6 +4,7 @@ ghost use Rattle.std.specs.Prelude.{◌≡◌, ◌↔◌, [], IfOk, IsTrue};
 ghost use Rattle.std.specs.List.{flat_map};
 ghost use Rattle.fragment_codec.specs.Streams.{spelling};
 
+use attendance::Finding;
 use fragment_codec::{Frame, write_frame};
 use ft_types::{Hart, Keeper, Memory, MemorySink};
 use std::alloc::Global;
@@ -71,6 +72,8 @@ pub enum Deed {
     Anew(Keeper),
     /// This steers: the keeper has read all that was sent, or all but the last of it.
     HasRead(Keeper, Extent),
+    /// This steers: it is attended to what a tick finds of keepers. One that lacks frames is sent all once more, unless some still wait to be written to it.
+    Attend(Finding),
     /// This steers: a client has read all answers that were told.
     AnswersRead,
 }

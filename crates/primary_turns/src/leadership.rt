@@ -12,7 +12,8 @@ use crate::read::Sent;
 use crate::said::Said;
 use crate::taking::{Notes, take_one};
 use crate::told::Told;
-use ft_types::{Count, Memory};
+use attendance::Attendance;
+use ft_types::{Count, Memory, Quorum};
 use leading::{Leader, Spacing};
 use std::alloc::Global;
 use std::marker::Model;
@@ -85,13 +86,14 @@ fn cut_due(
 }
 
 impl Leadership {
-    /// It begins with this leader.
-    pub fn new(alloc: Global, leader: Leader) -> Result<Leadership, Memory>
+    /// It begins with this leader, and keepers.
+    pub fn new(alloc: Global, leader: Leader, quorum: Quorum) -> Result<Leadership, Memory>
         ensures { IfOk result (λ l. l ≡ seen leader (replicate HART_ROW None)) }
     {
         let notes = Notes {
             told: Told::new(alloc)?,
             sent: Sent::new(),
+            attendance: Attendance::new(quorum),
             pace: Pace::new(),
         };
         Ok(Leadership { leader, notes })

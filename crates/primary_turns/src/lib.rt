@@ -1,6 +1,7 @@
 //! What a primary that leads does: it takes what clients and keepers say, leads rounds, and answers deeds, in their order, to whoever writes.
 #![tactic(auto)]
 
+mod attending;
 mod deeds;
 mod leadership;
 mod pace;

@@ -49,6 +49,11 @@ impl Sent {
         self.before = self.last.replace(counts);
     }
 
+    /// Those that were sent last.
+    pub(crate) fn last(&self) -> Option<Counts> {
+        self.last
+    }
+
     /// How much a keeper has read that acknowledges this in the term, as far as that is known.
     pub(crate) fn read_by(&self, acknowledgement: &Acknowledgement) -> Option<Extent> {
         if has_come_to(acknowledgement, &self.last) {

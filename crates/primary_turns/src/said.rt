@@ -3,7 +3,7 @@
 use ft_types::Keeper;
 use wire::{Acknowledgement, Request};
 
-/// What a line says to a primary.
+/// What a line, or the clock, says to a primary.
 #[derive(Clone, Copy)]
 pub enum Said {
     /// A client wants this.
@@ -12,4 +12,6 @@ pub enum Said {
     Acknowledgement(Acknowledgement),
     /// This keeper is to be sent all frames once more.
     Again(Keeper),
+    /// One more tick of the clock.
+    Tick,
 }

@@ -7,13 +7,15 @@ ghost use Rattle.primary_turns.specs.Deeds.{Adds, AreAnswersRead, AreRead, noted
 ghost use Rattle.primary_turns.specs.Turns.{ComesAgain, HearsRequest, IsBusy, IsKnown, Takes, seen};
 ghost use Rattle.primary_turns.specs.declared.said.Said.TheVariants as said;
 
+use crate::attending::attend;
 use crate::deeds::Deed;
 use crate::pace::Pace;
 use crate::read::Sent;
 use crate::said::Said;
 use crate::telling::{tell_heard, tell_released};
 use crate::told::Told;
-use ft_types::{Hart, Memory};
+use attendance::Attendance;
+use ft_types::{Hart, Memory, Term};
 use leading::{Came, Heard, Leader};
 use std::alloc::Global;
 use std::result::Result;
@@ -25,6 +27,7 @@ pub(crate) struct Notes {
     pub(crate) told: Told,
     /// This steers, and so do those below.
     pub(crate) sent: Sent,
+    pub(crate) attendance: Attendance,
     pub(crate) pace: Pace,
 }
 
@@ -99,15 +102,28 @@ fn take_request(
     hear(alloc, leader, notes, deeds, request)
 }
 
-/// Notes what a keeper has read, as far as its acknowledgement tells.
+/// Notes that a keeper is heard, and what it has in the term.
+fn note_heard(term: Term, attendance: &mut Attendance, acknowledgement: &Acknowledgement) {
+    let keeper = acknowledgement.keeper;
+    attendance.hear(keeper);
+    if acknowledgement.term == term {
+        attendance.acknowledge(keeper, &acknowledgement.counts);
+    } else if acknowledgement.term > term {
+        attendance.leave(keeper, acknowledgement.term);
+    }
+}
+
+/// Notes that a keeper is heard, and what it has read, as far as its acknowledgement tells.
 fn note_read(
     leader: &Leader,
     sent: &Sent,
+    attendance: &mut Attendance,
     deeds: &mut Vec<Deed>,
     acknowledgement: &Acknowledgement,
 ) -> Result<(), Memory>
     ensures { OnOk result (Adds deeds.old.items deeds.new.items (AreRead acknowledgement.now.keeper)) }
 {
+    note_heard(leader.term(), attendance, acknowledgement);
     if acknowledgement.term != leader.term() {
         return Ok(());
     }
@@ -130,7 +146,13 @@ fn take_acknowledgement(
 {
     let before = leader.released().len();
     leader.acknowledge(alloc, acknowledgement)?;
-    note_read(leader, &notes.sent, deeds, acknowledgement)?;
+    note_read(
+        leader,
+        &notes.sent,
+        &mut notes.attendance,
+        deeds,
+        acknowledgement,
+    )?;
     tell_released(
         &mut notes.told,
         deeds,
@@ -159,7 +181,13 @@ pub(crate) fn take_one(
             Ok(true)
         }
         Said::Again(keeper) => {
+            notes.attendance.ask(*keeper);
             deeds.push(Deed::Anew(*keeper))?;
+            Ok(true)
+        }
+        Said::Tick => {
+            let waits = leader.kept() > 0;
+            attend(alloc, &mut notes.attendance, &notes.sent, waits, deeds)?;
             Ok(true)
         }
     }

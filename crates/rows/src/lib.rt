@@ -3,6 +3,8 @@
 #![tactic(auto)]
 
 #[cfg(test)]
+mod attending;
+#[cfg(test)]
 mod boards;
 #[cfg(test)]
 mod desks;
