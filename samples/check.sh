@@ -66,6 +66,8 @@ lacks() {
         echo "there is no $live"
     elif grep -q 'samples/three' "$1" && ! has_namespaces; then
         echo "there is no socat or no right to make namespaces"
+    elif grep -q 'samples/three/sqlite' "$1" && [ ! -f "$sqlite" ]; then
+        echo "there is no $sqlite"
     elif grep -q 'samples/live' "$1" && ! command -v bash > /dev/null; then
         echo "no bash is installed"
     elif grep -q 'pair.sh .* lua' "$1" && [ ! -f "$lua" ]; then
