@@ -312,6 +312,7 @@ elif [ -x "$live" ] && command -v bash > /dev/null; then
         echo "left out processes in two network namespaces, since there is no socat or no right to make them"
     fi
     drills 'what goes amiss between processes' amiss.sh
+    drills 'each fault line' faults.sh
     drills 'what is told of logs, and how they are mended' mend.sh
     if ! command -v cc > /dev/null; then
         echo "left out samples/live/power.sh, since no C compiler is installed"
