@@ -19,6 +19,6 @@ install:
 	install -D -m 644 -t $(share)/doc/wazhilom LICENSE VERSION $(documents)
 	install -D -m 644 -t $(share)/wazhilom/guests/images guests/images/service.image
 	install -D -m 755 -t $(share)/wazhilom/samples/live samples/live/pair.sh
-	install -D -m 755 -t $(share)/wazhilom/samples/three samples/three/three.sh
+	install -D -m 755 -t $(share)/wazhilom/samples/three samples/three/three.sh samples/three/door.sh
 	install -d $(units)
 	for unit in samples/systemd/*.service; do sed 's|/usr/share|$(PREFIX)/share|' "$$unit" > "$(units)/$${unit##*/}" || exit 1; done

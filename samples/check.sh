@@ -66,6 +66,8 @@ lacks() {
         echo "there is no $live"
     elif grep -q 'samples/three' "$1" && ! has_namespaces; then
         echo "there is no socat or no right to make namespaces"
+    elif grep -q 'samples/three/sqlite' "$1" && [ ! -f "$sqlite" ]; then
+        echo "there is no $sqlite"
     elif grep -q 'samples/live' "$1" && ! command -v bash > /dev/null; then
         echo "no bash is installed"
     elif grep -q 'pair.sh .* lua' "$1" && [ ! -f "$lua" ]; then
@@ -310,6 +312,7 @@ elif [ -x "$live" ] && command -v bash > /dev/null; then
         echo "left out processes in two network namespaces, since there is no socat or no right to make them"
     fi
     drills 'what goes amiss between processes' amiss.sh
+    drills 'each fault line' faults.sh
     drills 'what is told of logs, and how they are mended' mend.sh
     if ! command -v cc > /dev/null; then
         echo "left out samples/live/power.sh, since no C compiler is installed"

@@ -12,9 +12,12 @@
 #   hand K T P        hands the log over to term T, to the machine of keeper P, which leads that
 #   primary P T K..   leads term T here, from the log of this machine and those that the keepers K.. hand over
 # and of the client's machine:
-#   client WORDS      asks for the words of a file
+#   client WORDS      asks for the words of a file, or
+#   door PORT         asks for the lines that come over TCP to a port, and answers each there (door.sh), until it is stopped
 # Frames come to ports 7000 + P, acknowledgements to 7100 + K, requests to 7200, answers to 7300 + P, logs to 7400 + K. Needs bash, mkfifo and socat.
 set -eu
+here=$(cd "$(dirname "$0")" && pwd)
+export DOOR=$here/door.sh
 LIVE=live
 . "$1"
 keepers=($KEEPERS)
@@ -114,6 +117,20 @@ client() {
         heard "$((7300 + p))" "answers.$p"
     done
     "$LIVE" client "$1" 1 500 to $(names requests "${leaders[@]}") from $(names answers "${leaders[@]}")
+}
+
+door() {
+    local p
+    fifos told $(names requests "${leaders[@]}")
+    # They stay open, whoever comes and goes.
+    exec 7<> told
+    for p in "${leaders[@]}"; do
+        exec {held}<> "requests.$p"
+        said "requests.$p" "${keepers[$p]}" 7200
+        link "TCP-LISTEN:$((7300 + p)),reuseaddr,fork,$alive" 'SYSTEM:exec "$DOOR" hear,nofork' "answers.$p"
+    done
+    bash "$DOOR" "$1" &
+    wait $!
 }
 
 "$role" "$@"
