@@ -5,17 +5,19 @@
 mod checking;
 mod mending;
 mod names;
+mod renewing;
 
 ghost use Rattle.std.specs.Prelude.{◌≤◌};
 
 use crate::checking::check_log;
 use crate::mending::mend_log;
-use crate::names::{name_in_check, name_in_mend};
+use crate::names::{name_in_check, name_in_mend, name_in_renew};
+use crate::renewing::renew_log;
 use ends::{Fault, Host, refuse, tell};
 use live_client::ask;
 use live_keeper::{hand, keep, make};
 use live_primary::lead;
-use live_words::{CheckWords, MendWords, Task, WordsFault, asked_text, read_task};
+use live_words::{CheckWords, MendWords, RenewWords, Task, WordsFault, asked_text, read_task};
 use std::process::ExitCode;
 use std::{env, io};
 use version::VERSION;
@@ -55,6 +57,18 @@ fn mend_and_tell<H: Host>(rt: &H, words: &MendWords<'_>) -> u8
     }
 }
 
+fn renew_and_tell<H: Host>(rt: &H, words: &RenewWords<'_>) -> u8
+    ensures { result ≤ 1 }
+{
+    match renew_log(rt, words) {
+        Ok(status) => status,
+        Err(fault) => {
+            tell(rt, &fault, name_in_renew(words, &fault));
+            1
+        }
+    }
+}
+
 /// Does what is asked for, tells a fault, and gives the status that the program ends with.
 fn run<H: Host>(rt: &H, task: &Task<'_>) -> u8
     ensures { result ≤ 2 }
@@ -63,6 +77,7 @@ fn run<H: Host>(rt: &H, task: &Task<'_>) -> u8
         Task::Make(words) => make(rt, words),
         Task::Keeper(words) => keep(rt, words),
         Task::Hand(words) => hand(rt, words),
+        Task::Renew(words) => renew_and_tell(rt, words),
         Task::Primary(words) => lead(rt, words),
         Task::Client(words) => ask(rt, words),
         Task::Check(words) => check_and_tell(rt, words),

@@ -1,7 +1,7 @@
 //! The names of files.
 
 use ends::{Fault, NamedFile, name_at};
-use live_words::{CheckWords, MendWords};
+use live_words::{CheckWords, MendWords, RenewWords};
 
 /// The name of the file that a fault names where a log is looked at, which for fences is the log's.
 pub(crate) fn name_in_check<'a>(words: &CheckWords<'a>, fault: &Fault) -> &'a str {
@@ -20,6 +20,16 @@ pub(crate) fn name_in_mend<'a>(words: &MendWords<'a>, fault: &Fault) -> &'a str 
         Fault::File(NamedFile::From(number) | NamedFile::FromFences(number)) => {
             name_at(&words.others, *number)
         }
+        _ => "",
+    }
+}
+
+/// The name of the file that a fault names where a log is made anew, which for fences is the log's.
+pub(crate) fn name_in_renew<'a>(words: &RenewWords<'a>, fault: &Fault) -> &'a str {
+    match fault {
+        Fault::File(NamedFile::Image) => words.image,
+        Fault::File(NamedFile::Log | NamedFile::Fences) => words.log,
+        Fault::File(NamedFile::Handed(number)) => name_at(&words.handed, *number),
         _ => "",
     }
 }

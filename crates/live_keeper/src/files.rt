@@ -252,6 +252,10 @@ impl<R: Paths + AllocGlobal + Copy> Disk for HostDisk<R> {
         self.rt.make_new(self.places.mark.as_str())?.sync_all()
     }
 
+    fn unmark(&mut self) -> io::Result<()> {
+        self.rt.remove(self.places.mark.as_str())
+    }
+
     fn read_log(&mut self, alloc: Global) -> io::Result<Vec<u8>> {
         let mut bytes = Vec::new(alloc);
         let log = self.places.log()?;

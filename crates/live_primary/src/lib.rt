@@ -9,7 +9,9 @@ mod office;
 mod outset;
 mod pairs;
 mod reading;
+mod renewal;
 mod ticking;
 
 pub use helm::lead;
 pub use outset::read_image_file;
+pub use renewal::{Renewal, read_renewal};

@@ -55,7 +55,7 @@ pub fn read_image_file<R: Paths + AllocGlobal>(rt: &R, name: &str) -> Result<Ima
 }
 
 /// What these bytes hand over, behind the line of their pair.
-fn log_in(alloc: Global, guest: Guest, number: usize, bytes: &[u8]) -> Result<HandedLog, Fault>
+pub(crate) fn log_in(alloc: Global, guest: Guest, number: usize, bytes: &[u8]) -> Result<HandedLog, Fault>
     ensures { IfOk result (λ log. IsWhole guest bytes.now log) }
 {
     match read_handed_log(alloc, guest, bytes) {
@@ -65,7 +65,7 @@ fn log_in(alloc: Global, guest: Guest, number: usize, bytes: &[u8]) -> Result<Ha
 }
 
 /// The bytes that were handed over, with this number.
-fn handed_bytes<H: Host>(rt: &H, number: usize, name: &str) -> Result<Vec<u8>, Fault> {
+pub(crate) fn handed_bytes<H: Host>(rt: &H, number: usize, name: &str) -> Result<Vec<u8>, Fault> {
     match read_file(rt, name) {
         Ok(bytes) => Ok(bytes),
         Err(error) => Err(file_fault(&error, NamedFile::Handed(number))),

@@ -11,7 +11,7 @@ use std::result::Result;
 use wire::{Pair, read_pair};
 
 /// The pair that the first line of bytes names, and what stands behind it.
-fn first_pair<'a>(guest: &Guest, bytes: &'a [u8]) -> Option<(Pair, &'a [u8])>
+pub(crate) fn first_pair<'a>(guest: &Guest, bytes: &'a [u8]) -> Option<(Pair, &'a [u8])>
     ensures found { IfSome result (λ r. IsOfPair guest.now r.0 bytes.now r.1.now) }
     ensures none { IfNone result ((pair : pair_of_wire) (rest : List ℕ) → IsOfPair guest.now pair bytes.now rest → ⊥) }
 {

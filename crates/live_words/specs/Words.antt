@@ -3,7 +3,7 @@ use Rattle.std.specs.Prelude.{◌≡◌, ◌++◌, ◌⊎◌, ℕ, List, [], ◌
 use Rattle.ft_types.specs.Text.{IsNumber}
 use Rattle.word_forms.specs.declared.matching.Words.{Words}
 use Rattle.live_words.specs.declared.tasks.Task.{Task}
-use Rattle.live_words.specs.declared.tasks.Task.TheVariants.{Make, Keeper, Hand, Primary, Client, Check, Mend}
+use Rattle.live_words.specs.declared.tasks.Task.TheVariants.{Make, Keeper, Hand, Renew, Primary, Client, Check, Mend}
 use Rattle.wire.specs.Pairs.{IsLongWord}
 
 -- the rows end in these
@@ -36,6 +36,13 @@ Hands words (Hand w) =
     IsNumberAt words 3 w.term
 Hands words other = ⊥
 
+-- IMAGE K LOG T with HANDED..
+abbrev pub Renews : Words → Task → Type 0
+Renews words (Renew w) =
+    (slice_get words.words.items 0 ≡ Some w.image) × IsNumberAt words 1 w.keeper × (slice_get words.words.items 2 ≡ Some w.log) ×
+    IsNumberAt words 3 w.term × EndIn words.rows.items (w.handed ∷ [])
+Renews words other = ⊥
+
 -- IMAGE T KEEPERS NEED in REQUESTS.. out ANSWERS.. to FRAMES.. from ACKS.. with HANDED..
 abbrev pub Leads : Words → Task → Type 0
 Leads words (Primary w) =
@@ -65,5 +72,5 @@ Mends words other = ⊥
 abbrev pub AsksFor : Words → Task → Type 0
 AsksFor words task =
     ((words.name.now ≡ codes "make") × Makes words task) ⊎ ((words.name.now ≡ codes "keeper") × Keeps words task) ⊎ ((words.name.now ≡ codes "hand") × Hands words task) ⊎
-    ((words.name.now ≡ codes "primary") × Leads words task) ⊎ ((words.name.now ≡ codes "client") × Asks words task) ⊎
+    ((words.name.now ≡ codes "renew") × Renews words task) ⊎ ((words.name.now ≡ codes "primary") × Leads words task) ⊎ ((words.name.now ≡ codes "client") × Asks words task) ⊎
     ((words.name.now ≡ codes "check") × Checks words task) ⊎ ((words.name.now ≡ codes "mend") × Mends words task)

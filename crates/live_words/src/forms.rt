@@ -3,7 +3,7 @@
 use word_forms::Form;
 
 /// The forms of the words.
-pub(crate) static FORMS: [Form; 7] = [
+pub(crate) static FORMS: [Form; 8] = [
     Form {
         name: "make",
         usage: "live make IMAGE K KEEPERS NEED PAIR LOG",
@@ -27,6 +27,14 @@ pub(crate) static FORMS: [Form; 7] = [
         words: &["image", "keeper", "log", "term"],
         has_paths: false,
         behind: &[],
+    },
+    Form {
+        name: "renew",
+        usage: "live renew IMAGE K LOG T with HANDED..",
+        about: "makes a new log for keeper K, who lost his, of what others handed over to term T",
+        words: &["image", "keeper", "log", "term"],
+        has_paths: false,
+        behind: &["with"],
     },
     Form {
         name: "primary",

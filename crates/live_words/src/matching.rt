@@ -3,12 +3,13 @@
 ghost use Rattle.std.specs.Prelude.{◌≡◌, ◌<◌, ◌++◌, ◌∷◌, [], IfOk};
 ghost use Rattle.ft_types.specs.Text.{IsNumber};
 ghost use Rattle.live_words.specs.Usable.{IsUsable};
-ghost use Rattle.live_words.specs.Words.{AsksFor, Asks, Checks, Hands, Keeps, Leads, Makes, Mends};
+ghost use Rattle.live_words.specs.Words.{AsksFor, Asks, Checks, Hands, Keeps, Leads, Makes, Mends, Renews};
 ghost use Rattle.wire.specs.Pairs.{IsLongWord};
 
 use crate::forms::FORMS;
 use crate::tasks::{
-    CheckWords, ClientWords, HandWords, KeeperWords, MakeWords, MendWords, PrimaryWords, Task,
+    CheckWords, ClientWords, HandWords, KeeperWords, MakeWords, MendWords, PrimaryWords, RenewWords,
+    Task,
 };
 use ft_types::{KEEPER_LIMIT, Keeper, Quorum, Term, read_number};
 use std::alloc::Global;
@@ -166,6 +167,30 @@ fn handing_of<'a>(words: Words<'a>) -> Result<Task<'a>, WordsFault>
     }))
 }
 
+fn renewing_of<'a>(words: Words<'a>) -> Result<Task<'a>, WordsFault>
+    ensures usable { IfOk result IsUsable }
+    ensures which { IfOk result (λ task. Renews words.entry task) }
+{
+    let Words {
+        name: _,
+        words,
+        mut rows,
+    } = words;
+    let [image, number, log, granted] = *words.as_slice() else {
+        return Err(WordsFault::Usage);
+    };
+    let keeper = keeper(number)?;
+    let term = term(granted)?;
+    let handed = last_of(&mut rows)?;
+    Ok(Task::Renew(RenewWords {
+        image,
+        keeper,
+        log,
+        term,
+        handed,
+    }))
+}
+
 fn leading_of<'a>(words: Words<'a>) -> Result<Task<'a>, WordsFault>
     ensures usable { IfOk result IsUsable }
     ensures which { IfOk result (λ task. Leads words.entry task) }
@@ -257,6 +282,7 @@ fn task_of<'a>(words: Words<'a>) -> Result<Task<'a>, WordsFault>
         "make" => making_of(words),
         "keeper" => keeping_of(words),
         "hand" => handing_of(words),
+        "renew" => renewing_of(words),
         "primary" => leading_of(words),
         "client" => asking_of(words),
         "check" => checking_of(words),

@@ -34,6 +34,19 @@ pub struct HandWords<'a> {
     pub term: Term,
 }
 
+/// `renew IMAGE K LOG T with HANDED..`: a keeper that lost its log gets a new one.
+#[derive(Drop)]
+pub struct RenewWords<'a> {
+    pub image: &'a str,
+    /// The keeper's number.
+    pub keeper: Keeper,
+    /// The log that is made.
+    pub log: &'a str,
+    pub term: Term,
+    /// What other keepers handed over to the term.
+    pub handed: Vec<&'a str>,
+}
+
 /// `primary IMAGE T KEEPERS NEED in REQUESTS.. out ANSWERS.. to FRAMES.. from ACKS.. with HANDED..`: a term is led.
 #[derive(Drop)]
 pub struct PrimaryWords<'a> {
@@ -84,6 +97,7 @@ pub enum Task<'a> {
     Make(MakeWords<'a>),
     Keeper(KeeperWords<'a>),
     Hand(HandWords<'a>),
+    Renew(RenewWords<'a>),
     Primary(PrimaryWords<'a>),
     Client(ClientWords<'a>),
     Check(CheckWords<'a>),
