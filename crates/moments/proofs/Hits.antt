@@ -131,7 +131,7 @@ module _ (points : List Point) (v : LineView) (leads : Leads v.legs (standing_at
   pub no_breaks : (h : Hart) (access : Access) → IsStepFrom v.legs v.stands h access → All (λ point. Breaks point h.pc → ⊥) points →
       NoneFrom BreaksAt points v v.stands.moment (v.stands.moment + 1)
   no_breaks h access step none = λ moment from below point has breaks.
-      All-contains (λ (p : Point). Breaks p h.pc → ⊥) points point has none
+      All-contains (λ (p : Point). Breaks p h.pc → ⊥) points point none has
       (fact_here v.legs v.start v.stands h access (λ k a. Breaks point k.pc) leads turned step
       (subst (λ (k : ℕ). BreaksAt v k point) (one_moment moment from below) breaks))
 
@@ -147,7 +147,7 @@ module _ (points : List Point) (v : LineView) (leads : Leads v.legs (standing_at
       let there : StepAt v.legs v.start v.stands.moment (λ h access. Watches point access) =
       subst (λ (k : ℕ). WatchesAt v k point) (one_moment moment from below) watches in
       let is = same there.hart there.access (step_from v.legs v.start v.stands (λ h access. Watches point access) leads turned there) in
-      All-contains (λ (p : Point). Watches p uses → ⊥) points point has none (subst (λ (a : Access). Watches point a) (sym is) there.fact)
+      All-contains (λ (p : Point). Watches p uses → ⊥) points point none has (subst (λ (a : Access). Watches point a) (sym is) there.fact)
 
   pub watches_here : (uses : Access) (number : ℕ) → ((uses ≡ Nothing → ⊥) → (h : Hart) × IsStepFrom v.legs v.stands h uses) →
       ((point : Point) × (slice_get points number ≡ Some point) × Watches point uses) → IsOne WatchesAt points v v.stands.moment number

@@ -1,5 +1,6 @@
 -- Which interrupt a hart takes once its inputs are received, and what it uses else.
-use Rattle.std.proofs.Common.{◌≡◌, ◌↔◌, ℕ, zero, suc, ◌+◌, ◌-◌, ◌<◌, ◌/◌, ◌%◌, ◌^◌, ◌==◌, ◌&&◌, ◌||◌, List, [], ◌∷◌, drop, length, get_or, add-one, Bool, true, false, Option, Some, None, IsTrue, IsSome, bit_and, if◌then◌else◌, refl, ap, sym, subst, ◌∙◌, arith}
+use Rattle.std.proofs.Common.{◌≡◌, ◌≢◌, ◌↔◌, inl, inr, ℕ, zero, suc, ◌+◌, ◌-◌, ◌*◌, ◌<◌, ◌/◌, ◌%◌, ◌^◌, ◌==◌, ◌&&◌, ◌||◌, List, [], ◌∷◌, drop, length, get_or, add-one, Bool, true, false, Option, Some, None, IsTrue, IsSome, bit_and, if◌then◌else◌, refl, ap, sym, subst, ◌∙◌, arith}
+use Rattle.std.proofs.lemmas.Bool.Decides.{eqb_tells}
 use Rattle.std.proofs.lemmas.Grind.{get_or_default_zero}
 use Rattle.input_log.specs.declared.Input.{Input}
 use Rattle.input_log.specs.declared.Input.TheVariants.{Timer, Word, Bell}
@@ -53,10 +54,10 @@ mie_bit c = of c.mstatus_mpie c.mstatus_mie
     of false false = refl
 
 some_of : (a b c : Bool) (x y z : ℕ) → IsSome (if a then Some x else (if b then Some y else (if c then Some z else None))) ↔ IsTrue (a || b || c)
-some_of true b c x y z = (λ s. tt, λ s. tt)
-some_of false true c x y z = (λ s. tt, λ s. tt)
-some_of false false true x y z = (λ s. tt, λ s. tt)
-some_of false false false x y z = (λ s. absurd s, λ s. absurd s)
+some_of true b c x y z = (λ s. refl, λ s. refl)
+some_of false true c x y z = (λ s. refl, λ s. refl)
+some_of false false true x y z = (λ s. refl, λ s. refl)
+some_of false false false x y z = (λ s. s, λ s. s)
 
 pub some_interrupt : (set : ℕ) → IsSome (first_interrupt set) ↔ IsTrue (bit 11 set || bit 3 set || bit 7 set)
 some_interrupt set = some_of (bit 11 set) (bit 3 set) (bit 7 set) _ _ _
@@ -67,6 +68,14 @@ from_second : (xs : List ℕ) (n : ℕ) → get_or (drop 1 xs) n 0 ≡ get_or xs
 from_second [] n = refl
 from_second (x ∷ xs) n = refl
 
+-- each register but x0 has its word
+register_there : (h : Hart) (r : ℕ) → r ≢ 0 → register_of h r ≡ word_in h r
+register_there h r some =
+    elim (eqb_tells r 0) [
+      | inl same ↦ absurd (some same.1)
+      | inr other ↦ rw (other.0) refl
+    ]
+
 pub word_read : (h : Hart) (words : List ℕ) (r index word : ℕ) → words ≡ drop 1 h.registers → index < length words → index + 1 ≡ r →
     word ≡ get_or words index word → word ≡ word_in h r
 word_read h words r index word are lt is read =
@@ -74,4 +83,5 @@ word_read h words r index word are lt is read =
     ∙ get_or_default_zero words index word lt
     ∙ ap (λ (ws : List ℕ). get_or ws index 0) are
     ∙ from_second h.registers index
-    ∙ subst (λ (n : ℕ). get_or h.registers (suc index) 0 ≡ word_in h n) (sym (add-one index) ∙ is) refl
+    ∙ ap (register_of h) (sym (add-one index) ∙ is)
+    ∙ register_there h r (λ none. omega (arith, is, none))

@@ -12,8 +12,10 @@ pub mod Raised
 pub mod LegsWith
 pub mod Cutting
 pub mod Histories
+pub mod Trimmed
 pub mod Hits
 pub mod Stopping
 pub mod Rises
 pub mod Interrupts
+pub mod Uses
 pub mod Telling

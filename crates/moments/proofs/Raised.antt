@@ -13,14 +13,22 @@ use Rattle.edge_log.specs.EdgeLog.{IsLog, row_of, edge_as}
 use Rattle.edge_log.proofs.Logs.{in_row, of_row, to_edges}
 use Rattle.hart_replay.specs.declared.plans.PlannedLeg.{PlannedLeg}
 use Rattle.hart_replay.specs.Plans.{IsLeg, log_of}
-use Rattle.moments.proofs.Sums.{upto, upto_sum, upto_within}
+use Rattle.moments.proofs.Sums.{upto, upto_sum, upto_within, sum_more}
 use Rattle.moments.specs.machinery.Raising.{IsRaised, IsRaisedBy, AreMetOf, RaisesFor, Raises, IsLeastAbove}
 
 -- a greater count in place of one adds to the sum
 pub sum_put : (xs : List ℕ) (i x : ℕ) → i < length xs → count_at xs i < x → sum xs < sum (set xs i x)
 sum_put [] i x lt more = absurd (omega (arith, lt))
-sum_put (y ∷ xs) zero x lt more = omega (arith, more)
-sum_put (y ∷ xs) (suc i) x lt more = let rest = sum_put xs i x (omega (arith, lt)) more in omega (arith, rest)
+sum_put (y ∷ xs) zero x lt more =
+    let less : y < x = more in
+    let before = sum_more y xs in
+    let after : sum (set (y ∷ xs) zero x) ≡ x + sum xs = sum_more x xs in
+    omega (arith, less, before, after)
+sum_put (y ∷ xs) (suc i) x lt more =
+    let rest = sum_put xs i x (omega (arith, lt)) more in
+    let before = sum_more y xs in
+    let after : sum (set (y ∷ xs) (suc i) x) ≡ y + sum (set xs i x) = sum_more y (set xs i x) in
+    omega (arith, rest, before, after)
 
 -- a count that was put in its place
 put_at : (xs : List ℕ) (i x h : ℕ) → i < length xs → ((i ≡ h) × (count_at (set xs i x) h ≡ x)) ⊎ (count_at (set xs i x) h ≡ count_at xs h)

@@ -147,9 +147,9 @@ module _ (leg : PlannedLeg) (m n : MachineState) (hart : ℕ) (steps : Steps leg
       ]
     where
       index_set_same : (xs : List ℕ) (i x : ℕ) → i < length xs → slice_index (slice_set xs i x) i ≡ x
-      index_set_same [] i x no = absurd (omega (arith, no))
-      index_set_same (y ∷ ys) zero x yes = refl
-      index_set_same (y ∷ ys) (suc i) x yes = index_set_same ys i x (omega (arith, yes))
+      index_set_same [] i x lt = absurd (omega (arith, lt))
+      index_set_same (y ∷ ys) zero x lt = refl
+      index_set_same (y ∷ ys) (suc i) x lt = index_set_same ys i x (omega (arith, lt))
 
       index_set_other : (xs : List ℕ) (i j x : ℕ) → i ≢ j → slice_index (slice_set xs i x) j ≡ slice_index xs j
       index_set_other [] i j x ne = refl

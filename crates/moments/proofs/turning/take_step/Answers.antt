@@ -8,4 +8,4 @@ use Rattle.moments.proofs.turning.take_step.Goals as goal
 pub step_on-requires-clause-inputs : goal.step_on-requires-clause-inputs
 step_on-requires-clause-inputs c =
     no_inputs c.args.leg.now (machine_of c.args.now.now.machine) c.args.hart c.hart.result.now c.count-count.result _ c.hart.ensures c.count-count.ensures.value
-    (c.requires.quiet c.args.hart c.requires.hart) c.if-count-index.true
+    (c.requires.quiet c.args.hart c.requires.hart) c.if-count-stops.true
