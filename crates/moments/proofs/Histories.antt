@@ -142,6 +142,7 @@ module _ (image : ImageContents) (legs : List PlannedLeg) (plan : IsPlan (guest_
 
 -- at the ends of the last leg the machine is an outcome of the plan
 pub ends_are_outcomes : EndsAreOutcomes
+unfolding has_come
 ends_are_outcomes image legs leg t on last ends =
     let begun = begun_at_boot image legs (boot_machine image) refl on.plan in
     let whole = has_come image legs on.plan (boot_machine image) begun (turned t) (TurnsOn leg on.leads on.found ends) in

@@ -8,6 +8,7 @@ pub mod Turns
 pub mod Passing
 pub mod Keeping
 pub mod Lines
+pub mod Jumping
 pub mod Raised
 pub mod LegsWith
 pub mod Cutting

@@ -1,5 +1,5 @@
 -- What a hart's step uses, from what the code looks at.
-use Rattle.std.proofs.Common.{◌≡◌, ℕ, ◌+◌, ◌<◌, ◌%◌, ◌^◌, ◌==◌, ◌&&◌, List, [], length, slice_index, slice_index_or, Bool, true, false, Option, Some, None, IsSome, if◌then◌else◌, refl, ap, sym, ◌∙◌}
+use Rattle.std.proofs.Common.{◌≡◌, ℕ, ◌+◌, ◌<◌, ◌%◌, ◌^◌, ◌==◌, List, [], length, slice_index, slice_index_or, Bool, true, false, Option, Some, None, IsSome, if◌then◌else◌, refl, ap, sym, ◌∙◌}
 use Rattle.input_log.specs.declared.Input.{Input}
 use Rattle.rv32_isa.specs.declared.instruction.Instr.{Instr}
 use Rattle.rv32_isa.specs.declared.instruction.Instr.TheVariants.{Load, Store, Amo}
@@ -8,7 +8,6 @@ use Rattle.rv32_hart.specs.Hart.{Hart}
 use Rattle.rv32_hart.specs.Ram.{word_at}
 use Rattle.rv32_hart.specs.Csrs.{interrupt_of, received_all}
 use Rattle.rv32_hart.specs.Access.{in_ram, page_at, offset_at, load_width, store_width}
-use Rattle.moments.specs.declared.access.Bytes.{Bytes}
 use Rattle.moments.specs.declared.access.Access.{Access}
 use Rattle.moments.specs.declared.access.Access.TheVariants.{Nothing, Reads, Writes, Changes}
 use Rattle.moments.specs.Points.{used_at, used_by, used_by_word, used_in, used_next, unless_interrupted}
@@ -21,17 +20,6 @@ if_yes false x y z is same = cc
 if_no : {A : Type 0} (b : Bool) (x y z : A) → b ≡ false → z ≡ y → z ≡ (if b then x else y)
 if_no true x y z is same = cc
 if_no false x y z is same = same
-
--- bytes at an address that is one of RAM and aligned, and at another one
-pub used_some : (use_of : Bytes → Access) (pages first width : ℕ) (bytes : Bytes) → bytes ≡ (record { first = first; length = width }) →
-    ((first % width == 0) && in_ram pages first) ≡ true → use_of bytes ≡ used_at use_of pages first width
-used_some use_of pages first width bytes is there =
-    if_yes ((first % width == 0) && in_ram pages first) (use_of (record { first = first; length = width })) Nothing (use_of bytes) there (ap use_of is)
-
-pub used_none : (use_of : Bytes → Access) (pages first width : ℕ) → ((first % width == 0) && in_ram pages first) ≡ false →
-    Nothing ≡ used_at use_of pages first width
-used_none use_of pages first width none =
-    if_no ((first % width == 0) && in_ram pages first) (use_of (record { first = first; length = width })) Nothing Nothing none refl
 
 -- inputs change no register, so they don't change what an instruction uses
 word_of : List ℕ → ℕ → ℕ

@@ -1,4 +1,4 @@
-use Rattle.std.proofs.Common.{◌+◌, arith, refl}
+use Rattle.std.proofs.Common.{◌+◌, arith, refl, ap, length}
 use Rattle.moments.specs.machinery.Machines.{standing_of}
 use Rattle.moments.proofs.Turns.{quiet_at_none, turn_more}
 use Rattle.moments.proofs.turning.turn.Goals as goal
@@ -15,7 +15,7 @@ loop-now-preserved c =
       place = omega (arith, behind);
       moment = c.loop-now.invariant.moment;
       machine = c.loop-now.invariant.machine;
-      quiet = (refl, λ leg at. rw c.no_stops.ensures (quiet_at_none leg (standing_of c.loop-now.now).machine));
+      quiet = (ap length c.no_stops.ensures, λ leg at. rw c.no_stops.ensures (quiet_at_none leg (standing_of c.loop-now.now).machine));
     }
 
 pub loop-now-smaller : goal.loop-now-smaller
