@@ -5,6 +5,8 @@ use Rattle.input_log.specs.declared.Input.{Input}
 use Rattle.rv32_hart.specs.Hart.{Hart}
 use Rattle.rv32_hart.specs.Csrs.{received_all}
 use Rattle.guest_image.specs.Machine.{MachineState}
+use Rattle.hart_lease.specs.Runs.{counts_of, steps_taken}
+use Rattle.log_audit.proofs.StepAnswers.{there_below}
 use Rattle.hart_replay.specs.declared.plans.PlannedLeg.{PlannedLeg}
 use Rattle.hart_replay.specs.Plans.{log_of}
 use Rattle.hart_replay.proofs.Fronts.{past_all}
@@ -113,6 +115,42 @@ pub step_here : (legs : List PlannedLeg) (t : Standing) (leg : PlannedLeg) (hart
     IsNext leg t.machine hart → slice_get t.machine.harts hart ≡ Some h →
     IsStepFrom legs t h (used_next t.machine.pages (received_all ((log_of leg).inputs hart h.count) h))
 step_here legs t leg hart h at next found = record { leg = leg; there = at; hart = hart; next = next; found = found; uses = refl }
+
+-- ---- what the next step uses, from what a timeline looks at
+
+module _ (v : LineView) (hart : ℕ) (place : v.stands.place < length v.legs) (next : InLeg v (λ leg. IsNext leg v.stands.machine hart))
+    (there : hart < length v.stands.machine.harts) (inputs : List Input)
+    (inputs_is : InLeg v (λ leg. inputs ≡ (log_of leg).inputs hart (counts_of v.stands.machine hart))) (machine : MachineState)
+    (machine_is : machine ≡ v.stands.machine) (result : Access)
+    (uses : (h : Hart) → slice_get machine.harts hart ≡ Some h → result ≡ used_next machine.pages (received_all inputs h)) where
+  pub step_used : (h : Hart) × IsStepFrom v.legs v.stands h result
+  step_used =
+      let (leg, at) = leg_there v.legs v.stands.place place in
+      let (h, found) = there_below v.stands.machine.harts hart there in
+      let used : result ≡ used_next v.stands.machine.pages (received_all inputs h) =
+      subst (λ (m : MachineState). (k : Hart) → slice_get m.harts hart ≡ Some k → result ≡ used_next m.pages (received_all inputs k)) machine_is uses h
+      found in (
+        h,
+        record {
+          leg = leg;
+          there = at;
+          hart = hart;
+          next = next leg at;
+          found = found;
+          uses =
+              used
+              ∙ ap (λ (given : List Input). used_next v.stands.machine.pages (received_all given h))
+              (inputs_is leg at ∙ ap ((log_of leg).inputs hart) (ap steps_taken found));
+        },
+      )
+
+  pub uses_same : (h : Hart) (access : Access) → IsStepFrom v.legs v.stands h access → result ≡ access
+  uses_same h access step = (one_step v.legs v.stands step_used.0 h result access step_used.1 step).1
+
+-- where no hart may go none uses anything
+pub none_uses : (v : LineView) → InLeg v (λ leg. NoneMayGo leg v.stands.machine) → (h : Hart) (access other : Access) → IsStepFrom v.legs v.stands h access →
+    other ≡ access
+none_uses v none h access other step = absurd (none step.leg step.there step.hart step.next.may)
 
 -- ---- points at a timeline's moment
 

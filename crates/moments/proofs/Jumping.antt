@@ -1,14 +1,17 @@
 -- A timeline that begins, and one that goes to a snapshot.
 use Rattle.std.proofs.Common.{◌≡◌, ◌⊎◌, inl, inr, ℕ, ◌+◌, ◌-◌, ◌<◌, ◌≤◌, List, [], ◌∷◌, map, length, Contains, refl, ap, sym, subst, ◌∙◌, arith}
 use Rattle.ft_types.specs.Guests.{GuestParts}
-use Rattle.guest_image.specs.Machine.{MachineState}
+use Rattle.guest_image.specs.Image.{ImageContents, guest_of}
+use Rattle.guest_image.specs.Machine.{MachineState, boot_machine}
 use Rattle.hart_lease.specs.Runs.{counts_of}
 use Rattle.hart_replay.specs.declared.plans.PlannedLeg.{PlannedLeg}
+use Rattle.hart_replay.specs.Plans.{IsPlan}
 use Rattle.moments.specs.declared.snapshots.Snapshot.{Snapshot}
-use Rattle.moments.specs.Line.{LineView, Standing, Leads}
+use Rattle.moments.specs.Line.{LineView, Standing, standing_at, Leads}
 use Rattle.moments.specs.Line.{Begins}
 use Rattle.moments.specs.machinery.Machines.{machine_of, standing_of}
 use Rattle.moments.specs.machinery.Kept.{IsBegun, Stands, IsTimeline, QuietAt, IsTurned, OnLine}
+use Rattle.moments.proofs.Cutting.{begun_at_boot}
 use Rattle.moments.proofs.Lines.{line_of, kept_stands, first_stands, on_line}
 
 -- a line's first snapshot is at moment 0
@@ -18,6 +21,12 @@ first_moment guest legs first begun = ap (λ (s : Standing). s.moment) begun.is
 -- it is in the first leg
 pub first_place : (guest : GuestParts) (legs : List PlannedLeg) (first : Standing) → IsBegun guest legs first → first.place ≤ length legs - 1
 first_place guest legs first begun = let none : first.place ≡ 0 = ap (λ (s : Standing). s.place) begun.is in omega (arith, none)
+
+-- the line of a plan of the image begins at its boot
+pub begun_here : (image : ImageContents) (guest : GuestParts) (legs : List PlannedLeg) (boot m : MachineState) → guest ≡ guest_of image →
+    boot ≡ boot_machine image → m ≡ boot → IsPlan guest legs → IsBegun guest legs (standing_at m)
+begun_here image guest legs boot m same is was =
+    subst (λ (g : GuestParts). IsPlan g legs → IsBegun g legs (standing_at m)) (sym same) (begun_at_boot image legs m (was ∙ is))
 
 -- a timeline that stands at its first snapshot, or behind turns from there
 pub timeline_begun : (guest : GuestParts) (legs : List PlannedLeg) (begin first went now : Standing) (stops : List ℕ) → IsBegun guest legs begin →

@@ -9,6 +9,8 @@ pub mod Passing
 pub mod Keeping
 pub mod Lines
 pub mod Jumping
+pub mod Ending
+pub mod Taking
 pub mod Raised
 pub mod LegsWith
 pub mod Cutting

@@ -20,7 +20,7 @@ use Rattle.log_audit.specs.machinery.Covered.{IsQuietTo}
 use Rattle.hart_replay.specs.Leading.{AreAtEnds}
 use Rattle.moments.specs.Line.{MayGo, IsNext, Steps, turn_in, Standing, Leads}
 use Rattle.moments.specs.Line.{TurnsOn}
-use Rattle.moments.specs.machinery.Kept.{AreQuiet, IsTurned}
+use Rattle.moments.specs.machinery.Kept.{AreQuiet, QuietAt, IsTurned}
 use Rattle.moments.proofs.Moves.{one_leg}
 use Rattle.moments.proofs.Standings.{counts_step}
 
@@ -38,6 +38,9 @@ quiet_at_none leg m = λ hart lt.
       edges = λ e has own from. omega (arith, none);
       inputs = λ n from below. absurd (omega (arith, none, below));
     }
+
+pub quiet_none : (legs : List PlannedLeg) (t : Standing) (stops : List ℕ) → stops ≡ replicate HART_ROW 0 → QuietAt legs t stops
+quiet_none legs t stops is = subst (λ (s : List ℕ). QuietAt legs t s) (sym is) (refl, λ leg at. quiet_at_none leg t.machine)
 
 -- the line is led on past a leg that was led to its end
 pub turn_more : (legs : List PlannedLeg) (first t u : Standing) (leg : PlannedLeg) → slice_get legs t.place ≡ Some leg → AreAtEnds t.machine leg.ends →
