@@ -79,7 +79,7 @@ comes_on leg found m n order hart come next steps =
         (ap (λ (c : ℕ → ℕ). run_of found (turns_of (log_of leg).inputs c order)) (sym based) ∙ come.run)))
 
 -- one leg more was led
-led_more : (front : List PlannedLeg) (leg : PlannedLeg) (m k n : MachineState) → LegsLead front m k → LegLeads leg k n → LegsLead (front ++ leg ∷ []) m n
+pub led_more : (front : List PlannedLeg) (leg : PlannedLeg) (m k n : MachineState) → LegsLead front m k → LegLeads leg k n → LegsLead (front ++ leg ∷ []) m n
 led_more [] leg m k n same leads = (n, subst (λ (x : MachineState). LegLeads leg x n) same leads, refl)
 led_more (x ∷ front) leg m k n (next, first, rest) leads = (next, first, led_more front leg next k n rest leads)
 
@@ -142,6 +142,7 @@ module _ (image : ImageContents) (legs : List PlannedLeg) (plan : IsPlan (guest_
 
 -- at the ends of the last leg the machine is an outcome of the plan
 pub ends_are_outcomes : EndsAreOutcomes
+unfolding has_come
 ends_are_outcomes image legs leg t on last ends =
     let begun = begun_at_boot image legs (boot_machine image) refl on.plan in
     let whole = has_come image legs on.plan (boot_machine image) begun (turned t) (TurnsOn leg on.leads on.found ends) in

@@ -5,6 +5,8 @@ use Rattle.input_log.specs.declared.Input.{Input}
 use Rattle.rv32_hart.specs.Hart.{Hart}
 use Rattle.rv32_hart.specs.Csrs.{received_all}
 use Rattle.guest_image.specs.Machine.{MachineState}
+use Rattle.hart_lease.specs.Runs.{counts_of, steps_taken}
+use Rattle.log_audit.proofs.StepAnswers.{there_below}
 use Rattle.hart_replay.specs.declared.plans.PlannedLeg.{PlannedLeg}
 use Rattle.hart_replay.specs.Plans.{log_of}
 use Rattle.hart_replay.proofs.Fronts.{past_all}
@@ -114,6 +116,42 @@ pub step_here : (legs : List PlannedLeg) (t : Standing) (leg : PlannedLeg) (hart
     IsStepFrom legs t h (used_next t.machine.pages (received_all ((log_of leg).inputs hart h.count) h))
 step_here legs t leg hart h at next found = record { leg = leg; there = at; hart = hart; next = next; found = found; uses = refl }
 
+-- ---- what the next step uses, from what a timeline looks at
+
+module _ (v : LineView) (hart : ℕ) (place : v.stands.place < length v.legs) (next : InLeg v (λ leg. IsNext leg v.stands.machine hart))
+    (there : hart < length v.stands.machine.harts) (inputs : List Input)
+    (inputs_is : InLeg v (λ leg. inputs ≡ (log_of leg).inputs hart (counts_of v.stands.machine hart))) (machine : MachineState)
+    (machine_is : machine ≡ v.stands.machine) (result : Access)
+    (uses : (h : Hart) → slice_get machine.harts hart ≡ Some h → result ≡ used_next machine.pages (received_all inputs h)) where
+  pub step_used : (h : Hart) × IsStepFrom v.legs v.stands h result
+  step_used =
+      let (leg, at) = leg_there v.legs v.stands.place place in
+      let (h, found) = there_below v.stands.machine.harts hart there in
+      let used : result ≡ used_next v.stands.machine.pages (received_all inputs h) =
+      subst (λ (m : MachineState). (k : Hart) → slice_get m.harts hart ≡ Some k → result ≡ used_next m.pages (received_all inputs k)) machine_is uses h
+      found in (
+        h,
+        record {
+          leg = leg;
+          there = at;
+          hart = hart;
+          next = next leg at;
+          found = found;
+          uses =
+              used
+              ∙ ap (λ (given : List Input). used_next v.stands.machine.pages (received_all given h))
+              (inputs_is leg at ∙ ap ((log_of leg).inputs hart) (ap steps_taken found));
+        },
+      )
+
+  pub uses_same : (h : Hart) (access : Access) → IsStepFrom v.legs v.stands h access → result ≡ access
+  uses_same h access step = (one_step v.legs v.stands step_used.0 h result access step_used.1 step).1
+
+-- where no hart may go none uses anything
+pub none_uses : (v : LineView) → InLeg v (λ leg. NoneMayGo leg v.stands.machine) → (h : Hart) (access other : Access) → IsStepFrom v.legs v.stands h access →
+    other ≡ access
+none_uses v none h access other step = absurd (none step.leg step.there step.hart step.next.may)
+
 -- ---- points at a timeline's moment
 
 module _ (points : List Point) (v : LineView) (leads : Leads v.legs (standing_at v.start) v.stands) (turned : IsTurned v.legs v.stands) where
@@ -131,7 +169,7 @@ module _ (points : List Point) (v : LineView) (leads : Leads v.legs (standing_at
   pub no_breaks : (h : Hart) (access : Access) → IsStepFrom v.legs v.stands h access → All (λ point. Breaks point h.pc → ⊥) points →
       NoneFrom BreaksAt points v v.stands.moment (v.stands.moment + 1)
   no_breaks h access step none = λ moment from below point has breaks.
-      All-contains (λ (p : Point). Breaks p h.pc → ⊥) points point has none
+      All-contains (λ (p : Point). Breaks p h.pc → ⊥) points point none has
       (fact_here v.legs v.start v.stands h access (λ k a. Breaks point k.pc) leads turned step
       (subst (λ (k : ℕ). BreaksAt v k point) (one_moment moment from below) breaks))
 
@@ -147,7 +185,7 @@ module _ (points : List Point) (v : LineView) (leads : Leads v.legs (standing_at
       let there : StepAt v.legs v.start v.stands.moment (λ h access. Watches point access) =
       subst (λ (k : ℕ). WatchesAt v k point) (one_moment moment from below) watches in
       let is = same there.hart there.access (step_from v.legs v.start v.stands (λ h access. Watches point access) leads turned there) in
-      All-contains (λ (p : Point). Watches p uses → ⊥) points point has none (subst (λ (a : Access). Watches point a) (sym is) there.fact)
+      All-contains (λ (p : Point). Watches p uses → ⊥) points point none has (subst (λ (a : Access). Watches point a) (sym is) there.fact)
 
   pub watches_here : (uses : Access) (number : ℕ) → ((uses ≡ Nothing → ⊥) → (h : Hart) × IsStepFrom v.legs v.stands h uses) →
       ((point : Point) × (slice_get points number ≡ Some point) × Watches point uses) → IsOne WatchesAt points v v.stands.moment number

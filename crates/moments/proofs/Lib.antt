@@ -8,12 +8,17 @@ pub mod Turns
 pub mod Passing
 pub mod Keeping
 pub mod Lines
+pub mod Jumping
+pub mod Ending
+pub mod Taking
 pub mod Raised
 pub mod LegsWith
 pub mod Cutting
 pub mod Histories
+pub mod Trimmed
 pub mod Hits
 pub mod Stopping
 pub mod Rises
 pub mod Interrupts
+pub mod Uses
 pub mod Telling

@@ -18,7 +18,7 @@ use Rattle.moments.specs.Line.{Begins, StepsOn, TurnsOn}
 pub some_is : {A : Type 0} (x y : A) → Some x ≡ Some y → x ≡ y
 some_is x y e = cc
 
-one_leg : (legs : List PlannedLeg) (place : ℕ) (leg other : PlannedLeg) → slice_get legs place ≡ Some leg → slice_get legs place ≡ Some other → leg ≡ other
+pub one_leg : (legs : List PlannedLeg) (place : ℕ) (leg other : PlannedLeg) → slice_get legs place ≡ Some leg → slice_get legs place ≡ Some other → leg ≡ other
 one_leg legs place leg other is was = some_is leg other (sym is ∙ was)
 
 -- a hart that runs is there
@@ -129,7 +129,7 @@ later legs s t Begins = omega arith
 later legs s t (StepsOn {t = u} leg hart n leads at next steps) = let le = later legs s u leads in omega (arith, le)
 later legs s t (TurnsOn {t = u} leg leads at ends) = later legs s u leads
 
-same_moment : (legs : List PlannedLeg) (s t : Standing) → Leads legs s t → s.moment ≡ t.moment → s.machine ≡ t.machine
+pub same_moment : (legs : List PlannedLeg) (s t : Standing) → Leads legs s t → s.moment ≡ t.moment → s.machine ≡ t.machine
 same_moment legs s t Begins is = refl
 same_moment legs s t (StepsOn {t = u} leg hart n leads at next steps) is =
     let le = later legs s u leads in absurd (omega (arith, le, is))

@@ -49,6 +49,11 @@ module _ (leg : PlannedLeg) (hart count : ℕ) (now : ℕ → ℕ) (count_is : c
       let own = (of_row leg.edges.start leg.edges.rows rules hart (slice_index_or here k d) stands).own in
       met (edge_as (slice_index_or here k d)) (to_edges leg.edges.rows hart (slice_index_or here k d) stands) own (at ∙ count_is)
 
+  -- the hart is below its end, and whether its edges are met was looked at
+  pub both_met : (end : ℕ) → end ≡ count_at leg.ends hart → count < end → (met : Bool) → IsTrue met ↔ All (λ e. e.after ≤ now e.other) here →
+      IsTrue met ↔ ((count < count_at leg.ends hart) × IsMet (log_of leg).edges now hart)
+  both_met end is below met exact = (λ so. (omega (arith, is, below), met_of_all (exact.0 so)), λ both. exact.1 (all_of_met both.1))
+
 -- below its stop a hart that runs may go
 pub quiet_may : (leg : PlannedLeg) (m : MachineState) (hart stop : ℕ) → IsQuietTo leg hart (counts_of m hart) stop → is_halted m hart ≡ false →
     counts_of m hart < stop → MayGo leg m hart

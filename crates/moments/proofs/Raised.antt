@@ -13,14 +13,22 @@ use Rattle.edge_log.specs.EdgeLog.{IsLog, row_of, edge_as}
 use Rattle.edge_log.proofs.Logs.{in_row, of_row, to_edges}
 use Rattle.hart_replay.specs.declared.plans.PlannedLeg.{PlannedLeg}
 use Rattle.hart_replay.specs.Plans.{IsLeg, log_of}
-use Rattle.moments.proofs.Sums.{upto, upto_sum, upto_within}
+use Rattle.moments.proofs.Sums.{upto, upto_sum, upto_within, sum_more}
 use Rattle.moments.specs.machinery.Raising.{IsRaised, IsRaisedBy, AreMetOf, RaisesFor, Raises, IsLeastAbove}
 
 -- a greater count in place of one adds to the sum
 pub sum_put : (xs : List ℕ) (i x : ℕ) → i < length xs → count_at xs i < x → sum xs < sum (set xs i x)
 sum_put [] i x lt more = absurd (omega (arith, lt))
-sum_put (y ∷ xs) zero x lt more = omega (arith, more)
-sum_put (y ∷ xs) (suc i) x lt more = let rest = sum_put xs i x (omega (arith, lt)) more in omega (arith, rest)
+sum_put (y ∷ xs) zero x lt more =
+    let less : y < x = more in
+    let before = sum_more y xs in
+    let after : sum (set (y ∷ xs) zero x) ≡ x + sum xs = sum_more x xs in
+    omega (arith, less, before, after)
+sum_put (y ∷ xs) (suc i) x lt more =
+    let rest = sum_put xs i x (omega (arith, lt)) more in
+    let before = sum_more y xs in
+    let after : sum (set (y ∷ xs) (suc i) x) ≡ y + sum (set xs i x) = sum_more y (set xs i x) in
+    omega (arith, rest, before, after)
 
 -- a count that was put in its place
 put_at : (xs : List ℕ) (i x h : ℕ) → i < length xs → ((i ≡ h) × (count_at (set xs i x) h ≡ x)) ⊎ (count_at (set xs i x) h ≡ count_at xs h)
@@ -137,6 +145,26 @@ so_all leg hart end old false new rules is so = (
       omega (arith, le, asks, of_other),
 )
 
+-- an edge of the hart's row is to one of the leg's harts
+pub other_there : (leg : PlannedLeg) (many hart : ℕ) (e : Edge) → IsLeg many leg → IsLog leg.edges.start leg.edges.rows → Contains (row_of leg.edges hart) e →
+    e.other < many
+other_there leg many hart e is rules has =
+    let lt = (of_row leg.edges.start leg.edges.rows rules hart e has).other in
+    let size : length leg.edges.start ≡ many = ap length is.start ∙ is.harts in
+    omega (arith, lt, size)
+
+-- and asks for a count, where its step is below counts that are within the leg's ends
+pub asks_count : (leg : PlannedLeg) (many hart end limit : ℕ) (old : List ℕ) (e : Edge) → IsLeg many leg → IsLog leg.edges.start leg.edges.rows →
+    Contains (row_of leg.edges hart) e → end ≡ count_at old hart → IsWithin (count_at old) (count_at leg.ends) → count_at leg.ends e.other < limit →
+    e.at < end → e.after < limit
+asks_count leg many hart end limit old e is rules has end_is within below lt =
+    let own = (of_row leg.edges.start leg.edges.rows rules hart e has).own in
+    let most = within hart in
+    let same : count_at leg.ends e.hart ≡ count_at leg.ends hart = ap (count_at leg.ends) own in
+    let le : e.after ≤ count_at leg.ends e.other =
+    is.cut.closed (edge_as e) (to_edges leg.edges.rows hart e has) (omega (arith, lt, end_is, most, same)) in
+    omega (arith, le, below)
+
 -- ---- hart by hart
 
 pub raises_next : (leg : PlannedLeg) (many : ℕ) (old mid new : List ℕ) (before raised : Bool) → Raises leg many old before mid →
@@ -161,6 +189,12 @@ raises_next leg many old mid new false false so_far next = (
             subst (λ (h : ℕ). AreMetOf leg h old) same (subst (λ (m : List ℕ). AreMetOf leg many m) so_far.0 next.1)
       ],
 )
+
+pub raises_within : (leg : PlannedLeg) (many so_many : ℕ) (old mid : List ℕ) (raised : Bool) → IsLeg many leg → Raises leg so_many old raised mid →
+    IsWithin (count_at old) (count_at leg.ends) → IsWithin (count_at mid) (count_at leg.ends)
+raises_within leg many so_many old mid true is so_far within = raised_within leg many old mid is so_far.0 within
+raises_within leg many so_many old mid false is so_far within =
+    subst (λ (m : List ℕ). IsWithin (count_at m) (count_at leg.ends)) (sym so_far.0) within
 
 -- ---- until no edge asks for more
 
@@ -230,3 +264,20 @@ module _ (leg : PlannedLeg) (is : IsLeg (length leg.base) leg) (hart steps : ℕ
             | inl lt ↦ met e.hart lt e has refl below
             | inr le ↦ let none : count_at counts e.hart ≡ 0 = get_or-eq_default counts 0 le in absurd (omega (arith, none, below))
           ]
+
+  -- the counts were raised, and their sum comes nearer to that of the ends
+  pub way_more : (old new : List ℕ) (raised : Bool) (many : ℕ) → raised ≡ true → IsOnTheWay leg hart steps old → Raises leg many old raised new →
+      IsOnTheWay leg hart steps new × (sum leg.ends - sum new < sum leg.ends - sum old)
+  way_more old new true many is way so =
+      let next = way_on old new way so.0 in
+      let more = so.1 in
+      let most = way_sum new next in
+      (next, omega (arith, more, most))
+  way_more old new false many is way so = cc
+
+  -- they were not
+  pub way_done : (old new : List ℕ) (raised : Bool) (many : ℕ) → raised ≡ false → many ≡ length old → IsOnTheWay leg hart steps old →
+      Raises leg many old raised new → IsLeastAbove leg hart steps new
+  way_done old new true many is all way so = cc
+  way_done old new false many is all way so =
+      subst (λ (m : List ℕ). IsLeastAbove leg hart steps m) (sym so.0) (way_ends old way (λ h lt. so.1 h (omega (arith, all, lt))))

@@ -203,11 +203,16 @@ module _ (guest : GuestParts) (legs : List PlannedLeg) (plan : IsPlan guest legs
   sum_wide f = grow (length (ends_of legs))
     where
       grow : (k : ℕ) → upto f guest.harts ≤ upto f (k + guest.harts)
-      grow zero = let is : upto f (0 + guest.harts) ≡ upto f guest.harts = ap (upto f) (omega arith) in omega (arith, is)
+      grow zero =
+          let same : 0 + guest.harts ≡ guest.harts = omega arith in
+          let is : upto f (0 + guest.harts) ≡ upto f guest.harts = ap (upto f) same in
+          omega (arith, is)
       grow (suc k) =
           let before = grow k in
-          let is : upto f (suc k + guest.harts) ≡ upto f (suc (k + guest.harts)) = ap (upto f) (omega arith) in
-          omega (arith, before, is)
+          let next : suc k + guest.harts ≡ suc (k + guest.harts) = omega arith in
+          let is : upto f (suc k + guest.harts) ≡ upto f (suc (k + guest.harts)) = ap (upto f) next in
+          let more : upto f (suc (k + guest.harts)) ≡ upto f (k + guest.harts) + f (k + guest.harts) = refl in
+          omega (arith, before, is, more)
 
   -- there is room for the step that comes next
   pub room : (t : Standing) (leg : PlannedLeg) (hart : ℕ) → Holds legs guest.harts t → slice_get legs t.place ≡ Some leg → IsNext leg t.machine hart →

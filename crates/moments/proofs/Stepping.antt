@@ -16,21 +16,16 @@ use Rattle.log_audit.proofs.Asking.{lacking}
 use Rattle.log_audit.proofs.StepAnswers.{read_state, there_below, set_found}
 use Rattle.moments.specs.declared.ram.Part.{Part}
 use Rattle.moments.specs.machinery.Parts.{bytes_of, is_own, contents_of, owned, ram_of}
-
--- each page may be read
-readable : (parts : List Part) (page : ℕ) → page < length parts → slice_index_or (map (λ (part : Part). true) parts) page false ≡ true
-readable [] page lt = absurd (omega (arith, lt))
-readable (p ∷ parts) zero lt = refl
-readable (p ∷ parts) (suc page) lt = readable parts page (omega (arith, lt))
+use Rattle.moments.proofs.Parts.{readable}
 
 -- one page more of its own, one fewer that is not
 one_fewer : (rights : List Bool) (page : ℕ) → page < length rights → slice_index_or rights page false ≡ false →
     lacking (slice_set rights page true) + 1 ≡ lacking rights
-one_fewer [] page lt no = absurd (omega (arith, lt))
-one_fewer (true ∷ rest) zero lt no = cc
-one_fewer (false ∷ rest) zero lt no = refl
-one_fewer (true ∷ rest) (suc page) lt no = one_fewer rest page (omega (arith, lt)) no
-one_fewer (false ∷ rest) (suc page) lt no = let less = one_fewer rest page (omega (arith, lt)) no in omega (arith, less)
+one_fewer [] page lt lacks = absurd (omega (arith, lt))
+one_fewer (true ∷ rest) zero lt lacks = cc
+one_fewer (false ∷ rest) zero lt lacks = refl
+one_fewer (true ∷ rest) (suc page) lt lacks = one_fewer rest page (omega (arith, lt)) lacks
+one_fewer (false ∷ rest) (suc page) lt lacks = let less = one_fewer rest page (omega (arith, lt)) lacks in omega (arith, less)
 
 -- what a step lacks is the right to write a page that is there
 module _ (inputs : List Input) (state : Hart) (parts : List Part) (page : ℕ) (want : Want) (missing : IsMissing inputs state (ram_of parts) (page, want)) where
@@ -40,11 +35,20 @@ module _ (inputs : List Input) (state : Hart) (parts : List Part) (page : ℕ) (
       let many : length (contents_of parts) ≡ length parts = length-map parts bytes_of in
       omega (arith, lt, many)
 
+  -- and there it is still, in parts of the same RAM
+  pub lacked_in : (left : List Part) → ram_of left ≡ ram_of parts → page < length left
+  lacked_in left same =
+      let lt = lacked_there in
+      let rights : length (owned left) ≡ length (owned parts) = ap (λ (r : Ram). length r.writable) same in
+      let many : length (owned parts) ≡ length parts = length-map parts is_own in
+      let as_many : length (owned left) ≡ length left = length-map left is_own in
+      omega (arith, lt, rights, many, as_many)
+
   not_own : slice_index_or (owned parts) page false ≡ false
   not_own = of want missing
     where
       of : (w : Want) → IsMissing inputs state (ram_of parts) (page, w) → slice_index_or (owned parts) page false ≡ false
-      of Read m = let yes = readable parts page lacked_there in let no = (missing_there state inputs (ram_of parts) page Read m).1 in cc
+      of Read m = let yes = readable parts page (missing_there state inputs (ram_of parts) page Read m).0 in let no = (missing_there state inputs (ram_of parts) page Read m).1 in cc
       of Write m = (missing_there state inputs (ram_of parts) page Write m).1
 
   pub fewer_lacking : (left next : List Part) → ram_of left ≡ ram_of parts → owned next ≡ slice_set (owned left) page true →

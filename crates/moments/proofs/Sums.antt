@@ -1,5 +1,6 @@
 -- Sums of the counts of the first harts.
 use Rattle.std.proofs.Common.{◌≡◌, ◌≢◌, inl, inr, ℕ, zero, suc, ◌+◌, ◌<◌, ◌≤◌, List, [], ◌∷◌, length, sum, refl, ap, sym, ◌∙◌, arith}
+use Rattle.std.proofs.lemmas.List.Sums.{sum_by-cons}
 use Rattle.ft_types.specs.Counts.{count_at}
 use Rattle.interleaving.specs.Log.{bump}
 use Rattle.interleaving.proofs.Put.{same_or_not, bump_same, bump_other}
@@ -67,19 +68,22 @@ upto_first : (f : ℕ → ℕ) (n : ℕ) → upto f (suc n) ≡ f 0 + upto (λ j
 upto_first f zero = omega arith
 upto_first f (suc n) = let before = upto_first f n in omega (arith, before)
 
+pub sum_more : (x : ℕ) (xs : List ℕ) → sum (x ∷ xs) ≡ x + sum xs
+sum_more x xs = sum_by-cons (λ (y : ℕ). y) x xs
+
 pub upto_sum : (xs : List ℕ) (n : ℕ) → length xs ≤ n → upto (count_at xs) n ≡ sum xs
 upto_sum [] n le = upto_zero (count_at []) n (λ j. refl)
 upto_sum (x ∷ xs) zero le = absurd (omega (arith, le))
 upto_sum (x ∷ xs) (suc n) le =
-    let first = upto_first (count_at (x ∷ xs)) n in
-    let rest = upto_sum xs n (omega (arith, le)) in
-    omega (arith, first, rest)
+    upto_first (count_at (x ∷ xs)) n ∙ ap (λ (k : ℕ). x + k) (upto_sum xs n (omega (arith, le))) ∙ sym (sum_more x xs)
 
 -- values of 0 behind the first add nothing
 pub upto_more : (f : ℕ → ℕ) (n k : ℕ) → ((j : ℕ) → n ≤ j → f j ≡ 0) → upto f (k + n) ≡ upto f n
-upto_more f n zero none = ap (upto f) (omega arith)
+upto_more f n zero none = let is : zero + n ≡ n = omega arith in ap (upto f) is
 upto_more f n (suc k) none =
     let before = upto_more f n k none in
     let last = none (k + n) (omega arith) in
-    let is : upto f (suc k + n) ≡ upto f (suc (k + n)) = ap (upto f) (omega arith) in
-    omega (arith, before, last, is)
+    let next : suc k + n ≡ suc (k + n) = omega arith in
+    let is : upto f (suc k + n) ≡ upto f (suc (k + n)) = ap (upto f) next in
+    let more : upto f (suc (k + n)) ≡ upto f (k + n) + f (k + n) = refl in
+    omega (arith, before, last, is, more)

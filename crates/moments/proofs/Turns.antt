@@ -20,7 +20,7 @@ use Rattle.log_audit.specs.machinery.Covered.{IsQuietTo}
 use Rattle.hart_replay.specs.Leading.{AreAtEnds}
 use Rattle.moments.specs.Line.{MayGo, IsNext, Steps, turn_in, Standing, Leads}
 use Rattle.moments.specs.Line.{TurnsOn}
-use Rattle.moments.specs.machinery.Kept.{AreQuiet, IsTurned}
+use Rattle.moments.specs.machinery.Kept.{AreQuiet, QuietAt, IsTurned}
 use Rattle.moments.proofs.Moves.{one_leg}
 use Rattle.moments.proofs.Standings.{counts_step}
 
@@ -38,6 +38,9 @@ quiet_at_none leg m = λ hart lt.
       edges = λ e has own from. omega (arith, none);
       inputs = λ n from below. absurd (omega (arith, none, below));
     }
+
+pub quiet_none : (legs : List PlannedLeg) (t : Standing) (stops : List ℕ) → stops ≡ replicate HART_ROW 0 → QuietAt legs t stops
+quiet_none legs t stops is = subst (λ (s : List ℕ). QuietAt legs t s) (sym is) (refl, λ leg at. quiet_at_none leg t.machine)
 
 -- the line is led on past a leg that was led to its end
 pub turn_more : (legs : List PlannedLeg) (first t u : Standing) (leg : PlannedLeg) → slice_get legs t.place ≡ Some leg → AreAtEnds t.machine leg.ends →
@@ -147,9 +150,9 @@ module _ (leg : PlannedLeg) (m n : MachineState) (hart : ℕ) (steps : Steps leg
       ]
     where
       index_set_same : (xs : List ℕ) (i x : ℕ) → i < length xs → slice_index (slice_set xs i x) i ≡ x
-      index_set_same [] i x no = absurd (omega (arith, no))
-      index_set_same (y ∷ ys) zero x yes = refl
-      index_set_same (y ∷ ys) (suc i) x yes = index_set_same ys i x (omega (arith, yes))
+      index_set_same [] i x lt = absurd (omega (arith, lt))
+      index_set_same (y ∷ ys) zero x lt = refl
+      index_set_same (y ∷ ys) (suc i) x lt = index_set_same ys i x (omega (arith, lt))
 
       index_set_other : (xs : List ℕ) (i j x : ℕ) → i ≢ j → slice_index (slice_set xs i x) j ≡ slice_index xs j
       index_set_other [] i j x ne = refl

@@ -3,12 +3,12 @@
 ghost use Rattle.std.specs.Prelude.{◌≡◌, ◌↔◌, ◌<◌, ◌≤◌, ◌+◌, ◌%◌, ◌≢◌, ◌==◌, ◌&&◌, ℕ, length, slice_get, true, false, Some, None, IsTrue, IfSome, IfNone, Option, IsSome};
 ghost use Rattle.input_log.specs.declared.Input.{Input as input_of_specs};
 ghost use Rattle.rv32_hart.specs.Hart.{Hart as HartRecord};
-ghost use Rattle.rv32_hart.specs.Csrs.{received_all, interrupt_of};
+ghost use Rattle.rv32_hart.specs.Csrs.{received_all, interrupt_of, first_interrupt};
 ghost use Rattle.rv32_hart.specs.Access.{in_ram as is_in_ram, page_at, offset_at, load_width as width_of_load, store_width as width_of_store};
 ghost use Rattle.moments.specs.machinery.Machines.{machine_of};
 ghost use Rattle.moments.specs.Points.{Overlap, used_by as used_by_of, used_next, word_in};
 ghost use Rattle.ft_types.specs.declared.names.TheConstants.{PAGE_LIMIT};
-ghost use Rattle.moments.specs.machinery.Pending.{mip_after};
+ghost use Rattle.moments.specs.machinery.Pending.{mip_after, bit_of as bit_of_specs};
 
 use crate::machines::SteppedMachine;
 use ft_types::{Hart, PAGE_BYTES, PageNo};
@@ -48,19 +48,33 @@ pub(crate) fn overlap(these: Bytes, those: Bytes) -> bool
     first < these_end && first < those_end
 }
 
+/// The bit of the interrupt that an input makes pending.
+fn bit_of(input: &Input) -> u32
+    ensures { result ≡ bit_of_specs input.now }
+{
+    match input {
+        Input::Timer => 0x80,
+        Input::Word(_) => 0x800,
+        Input::Bell(_) => 0x8,
+    }
+}
+
 /// The pending interrupts, once these inputs are received.
 fn pending(inputs: &[Input], mip: u32) -> u32
     ensures { result ≡ mip_after inputs.now mip }
 {
-    let Some((input, rest)) = inputs.split_first() else {
-        return mip;
-    };
-    let bit = match *input {
-        Input::Timer => 0x80,
-        Input::Word(_) => 0x800,
-        Input::Bell(_) => 0x8,
-    };
-    pending(rest, mip | bit)
+    let mut pending = mip;
+    for input in inputs {
+        pending |= bit_of(input);
+    }
+    pending
+}
+
+/// Whether one of the interrupts is in the set.
+fn has_one(set: u32) -> bool
+    ensures { IsTrue result ↔ IsSome (first_interrupt set) }
+{
+    set / 0x800 % 2 == 1 || set / 0x8 % 2 == 1 || set / 0x80 % 2 == 1
 }
 
 /// Whether the hart takes an interrupt instead of an instruction.
@@ -68,8 +82,7 @@ fn is_interrupted(state: &HartState, inputs: &[Input]) -> bool
     ensures { IsTrue result ↔ IsSome (interrupt_of (received_all inputs.now state.now)) }
 {
     let [mstatus, mie, mip, ..] = state.csr_words();
-    let set = mie & pending(inputs, mip);
-    mstatus / 0x8 % 2 == 1 && (set / 0x800 % 2 == 1 || set / 0x8 % 2 == 1 || set / 0x80 % 2 == 1)
+    mstatus / 0x8 % 2 == 1 && has_one(mie & pending(inputs, mip))
 }
 
 /// A page and an offset of it, where the address is one of RAM with so many pages.

@@ -39,6 +39,8 @@ fn raise_for(leg: &PlannedLeg, cut: &mut Counts, hart: Hart) -> bool
     let end = cut.get(hart);
     let mut has_raised = false;
     for edge in leg.edges.of_hart(hart) {
+        // proof: what it asks for is a count.
+        let _most = leg.ends.count_of(edge.other);
         has_raised |= raise_by(cut, edge, end);
     }
     has_raised
@@ -65,6 +67,8 @@ pub(crate) fn least_cut(leg: &PlannedLeg, hart: Hart, count: Count) -> Counts
     requires end { count ≤ count_at leg.now.ends hart }
     ensures { IsLeastAbove leg.now hart count result }
 {
+    // proof: the count is one.
+    let _end = leg.ends.count_of(hart);
     let mut cut = leg.base;
     cut.set(hart, count);
     loop {

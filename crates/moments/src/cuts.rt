@@ -1,20 +1,21 @@
 //! The machine at a count of a hart.
 
-ghost use Rattle.std.specs.Prelude.{◌≡◌, ◌≢◌, ◌↔◌, ◌<◌, ◌≤◌, ℕ, All, Any, Contains, Err, take, length, slice_get, Some, IfOk, IfErr, IfSome, IfNone};
+ghost use Rattle.std.specs.Prelude.{◌≡◌, ◌≢◌, ◌↔◌, ◌<◌, ◌≤◌, ◌++◌, ◌∷◌, [], ℕ, All, Contains, Err, take, length, slice_get, Some, IfOk, IfErr, IfSome, IfNone};
 ghost use Rattle.ft_types.specs.Counts.{count_at};
 ghost use Rattle.guest_image.specs.Image.{guest_of};
 ghost use Rattle.hart_lease.specs.Runs.{counts_of};
 ghost use Rattle.hart_replay.specs.declared.plans.PlannedLeg.{PlannedLeg as planned_leg};
 ghost use Rattle.hart_replay.specs.declared.fault.ReplayFault.TheVariants as fault;
-ghost use Rattle.hart_replay.specs.Plans.{IsLeg};
-ghost use Rattle.hart_replay.specs.Replays.{LegLeads};
+ghost use Rattle.interleaving.specs.Log.{IsCut};
+ghost use Rattle.hart_replay.specs.Plans.{IsLeg, IsPlan, log_of};
+ghost use Rattle.hart_replay.specs.Replays.{LegLeads, IsOutcome};
 ghost use Rattle.hart_replay.specs.Leading.{IsLegFault};
 ghost use Rattle.moments.specs.Cuts.{IsCutAt, IsLeastMachine, leg_to as leg_to_of};
 
 use crate::closure::least_cut;
 use ft_types::{Count, Counts, Hart, Memory, is_same_guest};
 use guest_image::{Image, Machine};
-use hart_replay::{Plan, PlannedLeg, ReplayFault, has_come_to, lead, lead_through};
+use hart_replay::{Plan, PlannedLeg, ReplayFault, has_come_to, lead, lead_all};
 use page_book::{Book, Replaying};
 use std::alloc::Global;
 use std::option::Option;
@@ -61,6 +62,36 @@ fn lead_to(alloc: Global, start: Machine, leg: &PlannedLeg) -> Result<Machine, R
     Ok(book.into_machine())
 }
 
+/// The machine to which the legs lead from boot.
+fn led_by(alloc: Global, image: &Image, legs: &[PlannedLeg]) -> Result<Machine, ReplayFault>
+    requires plan { IsPlan (guest_of image.now) legs.now }
+    ensures ok { IfOk result (λ m. IsOutcome image.now legs.now m) }
+    ensures fault { IfErr result (λ f. f ≢ fault.OtherGuest) }
+{
+    let boot = Machine::boot(alloc, image)?;
+    lead_all(alloc, image, boot, legs, 0)
+}
+
+/// The machine to which the legs before this one lead from boot, and it up to a closed cut.
+fn machine_in(
+    alloc: Global,
+    image: &Image,
+    legs: &[PlannedLeg],
+    number: usize,
+    cut: Counts,
+) -> Result<Machine, ReplayFault>
+    requires plan { IsPlan (guest_of image.now) legs.now }
+    requires number { number < length legs.now }
+    requires cut { (leg : planned_leg) → slice_get legs.now number ≡ Some leg → IsCut (log_of leg) (count_at cut) }
+    ensures ok { IfOk result (λ m. (leg : planned_leg) → slice_get legs.now number ≡ Some leg →
+        IsOutcome image.now (take number legs.now ++ leg_to_of leg cut ∷ []) m) }
+    ensures fault { IfErr result (λ f. f ≢ fault.OtherGuest) }
+{
+    let start = led_by(alloc, image, &legs[..number])?;
+    let trimmed = leg_to(&legs[number], cut)?;
+    lead_to(alloc, start, &trimmed)
+}
+
 /// The machine at the least closed cut at which the hart has exactly so many steps, where the plan has one.
 pub fn machine_at(
     alloc: Global,
@@ -77,9 +108,8 @@ pub fn machine_at(
     if !is_same_guest(&plan.guest(), &image.guest()) {
         return Err(ReplayFault::OtherGuest);
     }
-    let boot = Machine::boot(alloc, image)?;
     if count == 0 {
-        return Ok(Some(boot));
+        return Ok(Some(Machine::boot(alloc, image)?));
     }
     let legs = plan.legs();
     let Some(number) = leg_with(legs, hart, count) else {
@@ -89,7 +119,5 @@ pub fn machine_at(
     if cut.get(hart) != count {
         return Ok(None);
     }
-    let start = lead_through(alloc, image, boot, legs, 0, number)?;
-    let trimmed = leg_to(&legs[number], cut)?;
-    Ok(Some(lead_to(alloc, start, &trimmed)?))
+    Ok(Some(machine_in(alloc, image, legs, number, cut)?))
 }

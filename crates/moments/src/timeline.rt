@@ -2,7 +2,7 @@
 
 ghost use Rattle.std.specs.Prelude.{◌≡◌, ◌≢◌, ◌↔◌, ◌<◌, ◌≤◌, ◌+◌, ◌-◌, ◌⊎◌, ◌%◌, ℕ, [], Err, Some, true, false, length, slice_get, slice_index, slice_index_or, IfOk, IfErr, OnOk, OnErr, IfSome, IfNone};
 ghost use Rattle.ft_types.specs.Counts.{count_at};
-ghost use Rattle.ft_types.specs.declared.names.TheConstants.{INPUT_LIMIT};
+ghost use Rattle.ft_types.specs.declared.names.TheConstants.{HART_LIMIT, INPUT_LIMIT};
 ghost use Rattle.input_log.specs.Inputs.{inputs_at, inputs_of};
 ghost use Rattle.guest_image.specs.Image.{guest_of};
 ghost use Rattle.guest_image.specs.Machine.{MachineState, boot_machine};
@@ -114,23 +114,26 @@ fn stuck_at(leg: &PlannedLeg, machine: &SteppedMachine) -> Option<ReplayFault>
     ensures memory { IfSome result (λ f. f ≢ fault.Memory) }
     ensures ends { IfNone result (AreAtEnds (machine_of machine.now) leg.now.ends) }
 {
-    let mut fault = None;
+    let mut waits = false;
     for number in 0..machine.harts() {
         let hart = Hart::new(number);
-        let state = machine.hart(hart);
-        if state.count() < leg.ends.count_of(hart) {
-            if state.is_halted() {
-                return Some(ReplayFault::HaltedInside(hart, state.count()));
+        let count = machine.count_of(hart);
+        if count < leg.ends.count_of(hart) {
+            if machine.hart(hart).is_halted() {
+                return Some(ReplayFault::HaltedInside(hart, count));
             }
-            fault = Some(ReplayFault::Cyclic(machine.counts()));
+            waits = true;
         }
     }
-    fault
+    if waits {
+        return Some(ReplayFault::Cyclic(machine.counts()));
+    }
+    None
 }
 
 /// The line of the plan from this first snapshot on.
 fn begun(alloc: Global, plan: Plan, first: Snapshot) -> Result<Timeline, Memory>
-    requires boot { IsBegun plan.guest plan.legs (standing_of first) }
+    requires { IsBegun plan.guest plan.legs (standing_of first) }
     ensures guest { IfOk result (λ t. t.guest ≡ plan.guest) }
     ensures legs { IfOk result (λ t. t.legs ≡ plan.legs) }
     ensures start { IfOk result (λ t. t.start ≡ machine_of first.machine) }
@@ -156,6 +159,25 @@ fn begun(alloc: Global, plan: Plan, first: Snapshot) -> Result<Timeline, Memory>
     })
 }
 
+/// The line of a plan of this image from its boot on.
+fn booted(alloc: Global, image: &Image, plan: Plan) -> Result<Timeline, Memory>
+    requires { plan.guest ≡ guest_of image.now }
+    ensures legs { IfOk result (λ t. t.legs ≡ plan.legs) }
+    ensures start { IfOk result (λ t. t.start ≡ boot_machine image.now) }
+    ensures moment { IfOk result (λ t. t.stands.moment ≡ 0) }
+{
+    // proof: the legs lead on from boot.
+    let _legs = plan.legs();
+    let boot = Machine::boot(alloc, image)?;
+    let machine = SteppedMachine::of(alloc, &boot)?;
+    let first = Snapshot {
+        moment: 0,
+        leg: 0,
+        machine,
+    };
+    begun(alloc, plan, first)
+}
+
 impl Timeline {
     /// The plan's line at moment 0, the image's boot.
     pub fn begin(alloc: Global, image: &Image, plan: Plan) -> Result<Timeline, ReplayFault>
@@ -167,13 +189,7 @@ impl Timeline {
         if !is_same_guest(&plan.guest(), &image.guest()) {
             return Err(ReplayFault::OtherGuest);
         }
-        let boot = Machine::boot(alloc, image)?;
-        let first = Snapshot {
-            moment: 0,
-            leg: 0,
-            machine: SteppedMachine::of(alloc, &boot)?,
-        };
-        Ok(begun(alloc, plan, first)?)
+        Ok(booted(alloc, image, plan)?)
     }
 
     /// The present moment: how many steps of the line were taken.
@@ -202,7 +218,8 @@ impl Timeline {
 
     /// The number of harts.
     pub fn harts(&self) -> u8
-        ensures { result ≡ length self.now.stands.machine.harts }
+        ensures value { result ≡ length self.now.stands.machine.harts }
+        ensures limit { result ≤ HART_LIMIT }
     {
         self.stands.machine.harts()
     }
@@ -346,9 +363,9 @@ impl Timeline {
         // proof: the line has room for the step.
         let _last = self.last;
         let legs = self.plan.legs();
-        let leg = &legs[self.stands.leg];
+        let place = self.stands.leg;
         take_step(
-            leg,
+            &legs[place],
             &mut self.stands,
             &mut self.stops,
             hart,

@@ -6,5 +6,5 @@ use Rattle.moments.proofs.closure.raise_for.Given as goal
 abbrev pub invariant-loop-edge : goal.invariant-loop-edge
 invariant-loop-edge l =
     record {
-      raised : RaisedSo l.leg l.end l.fn.cut (take l.edge-index (row_of l.leg.edges l.hart)) l.has_raised l.cut;
+      raised : RaisedSo l.leg l.end l.fn.cut (take l.edge-index (row_of l.leg.edges l.fn.hart)) l.has_raised l.cut;
     }

@@ -1,16 +1,3 @@
-use Rattle.moments.proofs.Stepping.{taken}
-use Rattle.moments.proofs.Choosing.{chosen_all}
-use Rattle.moments.proofs.Turns.{quiet_on}
-use Rattle.moments.proofs.Passing.{quiet_may}
-use Rattle.moments.proofs.Keeping.{none_all}
-use Rattle.moments.proofs.Hits.{no_step}
-use Rattle.moments.proofs.Lines.{gone_on}
-use Rattle.moments.proofs.Raised.{way_ends}
-use Rattle.moments.proofs.LegsWith.{none_of_legs}
-use Rattle.moments.proofs.Rises.{went_on}
-use Rattle.moments.proofs.Stopping.{stops_back}
-use Rattle.moments.proofs.Interrupts.{word_read}
-use Rattle.moments.proofs.Parts.{bytes_at}
 use Rattle.hart_replay.proofs.honesty.Images.{honest_in}
 use Rattle.hart_replay.proofs.honesty.Replays.{at_position}
 use Rattle.moments.specs.Line.{standing_at}

@@ -7,8 +7,8 @@ use Rattle.moments.proofs.turning.step_on.Goals as goal
 
 pub step-requires-clause-runs : goal.step-requires-clause-runs
 step-requires-clause-runs c =
-    let limit = c.count_of.ensures.limit in
-    let is = c.count_of.ensures.value in
+    let limit = c.count_of-end.ensures.limit in
+    let is = c.count_of-end.ensures.value in
     next_runs c.args.leg.now (machine_of c.args.now.now.machine) c.args.hart COUNT_LIMIT c.requires.next (omega (arith, limit, is))
 
 pub returns-clause-steps : goal.returns-clause-steps

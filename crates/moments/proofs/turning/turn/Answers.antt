@@ -1,6 +1,6 @@
-use Rattle.std.proofs.Common.{arith, refl}
+use Rattle.std.proofs.Common.{◌+◌, arith, refl}
 use Rattle.moments.specs.machinery.Machines.{standing_of}
-use Rattle.moments.proofs.Turns.{quiet_at_none, turn_more}
+use Rattle.moments.proofs.Turns.{quiet_none, turn_more}
 use Rattle.moments.proofs.turning.turn.Goals as goal
 
 pub loop-now-preserved : goal.loop-now-preserved
@@ -15,7 +15,7 @@ loop-now-preserved c =
       place = omega (arith, behind);
       moment = c.loop-now.invariant.moment;
       machine = c.loop-now.invariant.machine;
-      quiet = (refl, λ leg at. rw c.no_stops.ensures (quiet_at_none leg (standing_of c.loop-now.now).machine));
+      quiet = quiet_none c.args.legs.now _ c.no_stops.result c.no_stops.ensures;
     }
 
 pub loop-now-smaller : goal.loop-now-smaller

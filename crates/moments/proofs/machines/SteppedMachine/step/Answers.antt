@@ -1,6 +1,6 @@
 use Rattle.std.proofs.Common.{sym, ap, ◌∙◌, true≢false, length, length-set}
 use Rattle.moments.specs.machinery.Parts.{contents_of}
-use Rattle.moments.proofs.Stepping.{lacked_there, fewer_lacking, step_runs, taken, put_back}
+use Rattle.moments.proofs.Stepping.{lacked_in, fewer_lacking, step_runs, taken, put_back}
 use Rattle.moments.proofs.machines.SteppedMachine.step.Goals as goal
 
 pub tick_with-requires-clause-count : goal.tick_with-requires-clause-count
@@ -16,12 +16,14 @@ returns-in-Done-clause-taken c =
     c.index_mut-state.result.now c.index_mut-state.ensures.value c.tick_with.new.state c.tick_with.new.pages.parts.items c.in-Done.ensures.done
 
 pub own-requires : goal.own-requires
-own-requires c = lacked_there c.args.inputs.now c.index_mut-state.result.now c.loop-page.self.ram.parts.items c.in-Miss.page c.in-Miss.field-1 c.in-Miss.ensures.miss
+own-requires c =
+    lacked_in c.args.inputs.now c.index_mut-state.result.now c.loop-page.self.ram.parts.items c.in-Miss.page c.in-Miss.field-1 c.in-Miss.ensures.miss
+    c.tick_with.new.pages.parts.items c.in-Miss.ensures.pages_kept
 
 pub loop-page-smaller : goal.loop-page-smaller
 loop-page-smaller c =
     fewer_lacking c.args.inputs.now c.index_mut-state.result.now c.loop-page.self.ram.parts.items c.in-Miss.page c.in-Miss.field-1 c.in-Miss.ensures.miss
-    c.tick_with.new.pages.parts.items c.own.new.self.parts.items c.in-Miss.ensures.pages_kept c.in_ok-own.ensures.owned
+    c.tick_with.new.pages.parts.items c.own.new.self.parts.items c.in-Miss.ensures.pages_kept c.in_ok-own-in-Miss.ensures.owned
 
 pub loop-page-preserved : goal.loop-page-preserved
 loop-page-preserved c =
