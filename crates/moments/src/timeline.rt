@@ -2,7 +2,7 @@
 
 ghost use Rattle.std.specs.Prelude.{◌≡◌, ◌≢◌, ◌↔◌, ◌<◌, ◌≤◌, ◌+◌, ◌-◌, ◌⊎◌, ◌%◌, ℕ, [], Err, Some, true, false, length, slice_get, slice_index, slice_index_or, IfOk, IfErr, OnOk, OnErr, IfSome, IfNone};
 ghost use Rattle.ft_types.specs.Counts.{count_at};
-ghost use Rattle.ft_types.specs.declared.names.TheConstants.{INPUT_LIMIT};
+ghost use Rattle.ft_types.specs.declared.names.TheConstants.{HART_LIMIT, INPUT_LIMIT};
 ghost use Rattle.input_log.specs.Inputs.{inputs_at, inputs_of};
 ghost use Rattle.guest_image.specs.Image.{guest_of};
 ghost use Rattle.guest_image.specs.Machine.{MachineState, boot_machine};
@@ -202,7 +202,8 @@ impl Timeline {
 
     /// The number of harts.
     pub fn harts(&self) -> u8
-        ensures { result ≡ length self.now.stands.machine.harts }
+        ensures value { result ≡ length self.now.stands.machine.harts }
+        ensures limit { result ≤ HART_LIMIT }
     {
         self.stands.machine.harts()
     }
