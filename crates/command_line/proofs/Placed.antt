@@ -1,11 +1,14 @@
 -- From the store of the streams' frames to the machine at a place.
-use Rattle.std.proofs.Common.{◌≡◌, ◌≢◌, ℕ, List, Option, Result, Ok, Err, IfErr, refl, subst, inl}
+use Rattle.std.proofs.Common.{◌≡◌, ◌≢◌, ℕ, List, Option, Result, Ok, Err, IfErr, refl, sym, subst, inl}
 use Rattle.ft_types.specs.Devices.{Writes}
 use Rattle.ft_types.specs.declared.errors.Failed.{Failed}
 use Rattle.ft_types.specs.Guests.{GuestParts}
 use Rattle.log_join.specs.Stores.{StoreView}
 use Rattle.guest_image.specs.Image.{ImageContents, guest_of}
-use Rattle.guest_image.specs.Machine.{MachineState}
+use Rattle.guest_image.specs.Machine.{MachineState, boot_machine}
+use Rattle.hart_replay.specs.declared.plans.PlannedLeg.{PlannedLeg}
+use Rattle.moments.specs.Line.{LineView}
+use Rattle.log_streams.specs.Outcome.{ArePlannedTo}
 use Rattle.guest_image.specs.Text.{machine_text}
 use Rattle.hart_replay.specs.declared.fault.ReplayFault.{ReplayFault}
 use Rattle.hart_replay.specs.declared.fault.ReplayFault.TheVariants.{Cyclic, HaltedInside, OtherGuest, Memory as NoMemory}
@@ -19,7 +22,7 @@ use Rattle.command_line.specs.declared.faults.CommandFault.{CommandFault}
 use Rattle.command_line.specs.declared.faults.CommandFault.TheVariants.{Usage, File, Image, Script, Events, World, Uncovered, Streams, NoStep, Input, Live, Memory}
 use Rattle.command_line.specs.Writing.{as_told}
 use Rattle.command_line.specs.Audits.{replay_fault}
-use Rattle.command_line.specs.LookingBack.{HasNoCutAt, HasNoCutOf, IsTextOf, IfNoStep}
+use Rattle.command_line.specs.LookingBack.{HasNoCutAt, HasNoCutOf, IsTextOf, IsLineOf, IfNoStep}
 
 -- a replay's fault says nothing of a place
 pub replay_is_elsewhere : (fault : ReplayFault) (P : Place → Type 0) → IfNoStep (replay_fault fault) P
@@ -71,3 +74,12 @@ joined_place image guest lefts store place (Ok x) is joined h = tt
 joined_place image guest lefts store place (Err f) is joined h =
     streams_to (λ streams. AreJoined guest streams store) (λ streams. IfNoStep f (λ other. (other ≡ place) × HasNoCutOf image streams place)) lefts
     (λ streams j. place_of image store place streams f (subst (λ (x : GuestParts). AreJoined x streams store) is j) h) joined
+
+-- the line of the store's plan is that of the streams' frames
+pub joined_line : (image : ImageContents) (guest : GuestParts) (lefts : List (Option (List ℕ))) (store : StoreView) (legs : List PlannedLeg) (line : LineView) →
+    guest ≡ guest_of image → OfStreams lefts (λ streams. AreJoined guest streams store) → ArePlannedTo store legs → line.legs ≡ legs →
+    line.start ≡ boot_machine image → line.stands.moment ≡ 0 → OfStreams lefts (λ streams. IsLineOf image streams line)
+joined_line image guest lefts store legs line is joined planned same start begins =
+    streams_to (λ streams. AreJoined guest streams store) (λ streams. IsLineOf image streams line) lefts
+    (λ streams j. (store, subst (λ (x : GuestParts). AreJoined x streams store) is j, subst (λ (l : List PlannedLeg). ArePlannedTo store l) (sym same) planned, start, begins))
+    joined

@@ -2,9 +2,10 @@
 use Rattle.std.specs.Prelude.{◌≡◌, ◌≤◌, ◌⊎◌, ℕ, List, Contains}
 use Rattle.log_join.specs.Stores.{StoreView}
 use Rattle.guest_image.specs.Image.{ImageContents, guest_of}
-use Rattle.guest_image.specs.Machine.{MachineState}
+use Rattle.guest_image.specs.Machine.{MachineState, boot_machine}
 use Rattle.guest_image.specs.Text.{machine_text}
 use Rattle.hart_replay.specs.declared.plans.PlannedLeg.{PlannedLeg}
+use Rattle.moments.specs.Line.{LineView}
 use Rattle.moments.specs.Cuts.{IsCutAt, IsLeastMachine}
 use Rattle.log_streams.specs.Streams.{AreJoined}
 use Rattle.log_streams.specs.Outcome.{ArePlannedTo}
@@ -42,3 +43,8 @@ IsTextOf P text = (machine : MachineState) × P machine × (text ≡ machine_tex
 abbrev pub IfNoStep : CommandFault → (Place → Type 0) → Type 0
 IfNoStep (NoStep place) P = P place
 IfNoStep _ P = Unit {0}
+
+-- the line of the plan of the join of the streams' frames, which begins with the image's boot; it stands at its beginning
+abbrev pub IsLineOf : ImageContents → List (List ℕ) → LineView → Type 0
+IsLineOf image streams line = (store : StoreView) × AreJoined (guest_of image) streams store × ArePlannedTo store line.legs ×
+    (line.start ≡ boot_machine image) × (line.stands.moment ≡ 0)

@@ -1,5 +1,9 @@
 //! The steps of a hart, a line each.
 
+ghost use Rattle.std.specs.Prelude.{map, IfOk};
+ghost use Rattle.log_streams.specs.Streams.{OfStreams};
+ghost use Rattle.command_line.specs.LookingBack.{IsLineOf};
+
 use crate::audits::planned;
 use crate::faults::{CommandFault, replayed, written};
 use crate::words::Place;
@@ -251,7 +255,9 @@ pub fn timeline_of<R: Source>(
     alloc: Global,
     image: &Image,
     readers: &mut [R],
-) -> Result<Timeline, CommandFault> {
+) -> Result<Timeline, CommandFault>
+    ensures { IfOk result (λ line. OfStreams (map R.left readers.old) (λ streams. IsLineOf image.now streams line)) }
+{
     let store = read_store(alloc, &image.guest(), readers)?;
     let plan = planned(alloc, &store)?;
     match Timeline::begin(alloc, image, plan) {

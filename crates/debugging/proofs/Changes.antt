@@ -1,7 +1,6 @@
 -- Kinds of packets.
-use Rattle.std.proofs.Common.{◌≡◌, ℕ, zero, suc, ◌<◌, ◌==◌, ◌||◌, Bool, true, slice_index_or, Contains, refl, subst, arith}
+use Rattle.std.proofs.Common.{◌≡◌, ℕ, zero, suc, ◌==◌, ◌||◌, Bool, true, slice_index_or, Contains, refl, ◌<◌, subst, arith}
 use Rattle.std.specs.Prelude.{codes}
-use Rattle.std.proofs.lemmas.Bool.Decides.{nat_tests}
 
 -- `G`, `P`, `M` and `X` would change the past
 abbrev is_change : ℕ → Bool
@@ -16,7 +15,3 @@ at_index kind (suc (suc (suc (suc i)))) h e = absurd (omega arith)
 
 pub changing : (kind : ℕ) → Contains (codes "GPMX") kind → (kind == 71 || kind == 80 || kind == 77 || kind == 88) ≡ true
 changing kind c = at_index kind c.0 c.1 c.2
-
--- `g`, `p` and `m` would not
-pub not_changing : (kind : ℕ) → (kind == 71 || kind == 80 || kind == 77 || kind == 88) ≡ true → kind < 97
-not_changing kind e = grind (arith, nat_tests)

@@ -1,11 +1,13 @@
 -- What is shown of RAM and of registers.
-use Rattle.std.proofs.Common.{◌≡◌, ◌⊎◌, inl, ◌<◌, ◌≤◌, ◌-◌, ◌^◌, ℕ, zero, suc, arith, refl, false, Option, None, Some, IfSome, IfNone, Result, IfOk, slice_index, List, [], ◌∷◌, ◌++◌, ap, subst, sym, ◌∙◌}
+use Rattle.std.proofs.Common.{◌≡◌, ◌⊎◌, inl, ◌<◌, ◌≤◌, ◌-◌, ◌^◌, ℕ, zero, suc, arith, refl, false, Option, None, Some, IfSome, IfNone, Result, IfOk, slice_index, slice_get, length, List, [], ◌∷◌, ◌++◌, ap, subst, sym, ◌∙◌}
 use Rattle.std.specs.List.{flat_map}
 use Rattle.std.proofs.lemmas.List.{append-nil}
 use Rattle.std.proofs.lemmas.List.Concat.{flat_map-append}
 use Rattle.std.proofs.lemmas.Result.{IfOk-weaker}
 use Rattle.rv32_hart.specs.Access.{in_ram}
 use Rattle.debugging.specs.Memories.{ShowsBytes, byte_in, memory_answer}
+use Rattle.rv32_hart.specs.Hart.{Hart}
+use Rattle.debugging.specs.Sessions.{SessionView, IsShown}
 use Rattle.debugging.specs.Shown.{word_digits}
 
 -- the text of these bytes is that of bytes of RAM
@@ -39,3 +41,23 @@ none_at pages None address sum e h = inl (subst (λ (a : ℕ). in_ram pages a �
 pub word_behind : (words : List ℕ) (n : ℕ) → 0 < n → slice_index (0 ∷ words) n ≡ slice_index words (n - 1)
 word_behind words zero h = absurd (omega arith)
 word_behind words (suc n) h = let e : suc n - 1 ≡ n = omega arith in rw e refl
+
+-- there is none behind the end
+not_there : (harts : List Hart) (i : ℕ) (h : Hart) → length harts ≤ i → slice_get harts i ≡ Some h → ⊥
+not_there [] i h few there = absurd cc
+not_there (x ∷ xs) zero h few there = omega (arith, few)
+not_there (x ∷ xs) (suc i) h few there = not_there xs i h (omega (arith, few)) there
+
+-- what is shown of the hart is that of each hart of which more is asked
+pub shown_of : {T E : Type 0} (items : T → List ℕ) (r : Result T E) (s : SessionView) (hart : Hart) (text : Hart → List ℕ) →
+    slice_get s.line.stands.machine.harts s.shown ≡ Some hart → IfOk r (λ t. items t ≡ text hart) →
+    IfOk r (λ t. (h : Hart) → IsShown s h → items t ≡ text h)
+shown_of items r s hart text there is =
+    IfOk-weaker r (λ t. items t ≡ text hart) (λ t. (h : Hart) → IsShown s h → items t ≡ text h)
+    (λ t e h shown. let same : hart ≡ h = cc in subst (λ (k : Hart). items t ≡ text k) same e) is
+
+-- nothing is shown of a hart that is not there
+pub none_shown : {T E : Type 0} (items : T → List ℕ) (r : Result T E) (s : SessionView) (text : Hart → List ℕ) →
+    length s.line.stands.machine.harts ≤ s.shown → IfOk r (λ t. Unit {0}) → IfOk r (λ t. (h : Hart) → IsShown s h → items t ≡ text h)
+none_shown items r s text none is =
+    IfOk-weaker r (λ t. Unit {0}) (λ t. (h : Hart) → IsShown s h → items t ≡ text h) (λ t u h shown. absurd (not_there s.line.stands.machine.harts s.shown h none shown)) is

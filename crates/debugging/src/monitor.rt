@@ -1,6 +1,7 @@
 //! Commands of gdb's `monitor`.
 
 ghost use Rattle.std.specs.Prelude.{◌≡◌, ◌≤◌};
+ghost use Rattle.ft_types.specs.declared.names.TheConstants.{HART_LIMIT};
 ghost use Rattle.moments.specs.Line.{steps_of};
 ghost use Rattle.debugging.specs.Sessions.{IsOfLine};
 
@@ -59,7 +60,9 @@ fn put_step(text: &mut Vec<u8>, verb: &[u8], hart: Hart, count: Count) -> Result
 }
 
 /// The hart and the number that these words are.
-fn read_place(words: &[u8], harts: u8) -> Option<(Hart, u64)> {
+fn read_place(words: &[u8], harts: u8) -> Option<(Hart, u64)>
+    requires { harts ≤ HART_LIMIT }
+{
     let (hart, number) = cut(words, b' ');
     let hart = read_number(hart)?;
     if hart >= u64::from(harts) {

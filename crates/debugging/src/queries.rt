@@ -1,10 +1,11 @@
 //! What is asked about the machine and the session.
 
-ghost use Rattle.std.specs.Prelude.{◌≡◌};
+ghost use Rattle.std.specs.Prelude.{◌≤◌};
+ghost use Rattle.ft_types.specs.declared.names.TheConstants.{HART_LIMIT};
 ghost use Rattle.debugging.specs.Sessions.{IsOfLine};
 
 use crate::features::features_text;
-use crate::numbers::read_thread;
+use crate::numbers::{hart_of, read_thread};
 use crate::runs::{count_of, hart_at};
 use crate::session::Session;
 use crate::stops::{put_number, put_thread};
@@ -18,7 +19,9 @@ const SUPPORTED: &[u8] =
     b"PacketSize=1000;QStartNoAckMode+;ReverseStep+;ReverseContinue+;qXfer:features:read+;vContSupported+;swbreak+";
 
 /// Every thread.
-fn threads_text(alloc: Global, harts: u8) -> Result<Vec<u8>, Memory> {
+fn threads_text(alloc: Global, harts: u8) -> Result<Vec<u8>, Memory>
+    requires { harts ≤ HART_LIMIT }
+{
     let mut text = Vec::new(alloc);
     for number in 0..harts {
         text.push(if number == 0 { b'm' } else { b',' })?;
@@ -50,7 +53,7 @@ pub(crate) fn put_hart(text: &mut Vec<u8>, line: &Timeline, hart: Hart) -> Resul
 /// What is told of a thread.
 fn thread_text(alloc: Global, line: &Timeline, thread: &[u8]) -> Result<Vec<u8>, Memory> {
     let mut text = Vec::new(alloc);
-    if let Some(hart) = read_thread(thread, line.harts()) {
+    if let Some(hart) = hart_of(read_thread(thread), line.harts()) {
         put_hart(&mut text, line, hart)?;
     }
     hex_text(alloc, &text)
@@ -71,20 +74,10 @@ fn chosen_text(alloc: Global, hart: Hart) -> Result<Vec<u8>, Memory> {
 
 /// The constant that a query is answered, where it is answered one; nothing else of this form is known.
 fn constant(query: &[u8]) -> &'static [u8] {
+    if query.starts_with(b"qSupported") {
+        return SUPPORTED;
+    }
     match query {
-        [
-            b'q',
-            b'S',
-            b'u',
-            b'p',
-            b'p',
-            b'o',
-            b'r',
-            b't',
-            b'e',
-            b'd',
-            ..
-        ] => SUPPORTED,
         b"QStartNoAckMode" => b"OK",
         b"qsThreadInfo" => b"l",
         b"qAttached" => b"1",
@@ -100,22 +93,28 @@ fn constant_text(alloc: Global, query: &[u8]) -> Result<Vec<u8>, Memory> {
 
 impl Session {
     /// What the query is answered.
+    #[tactic(auto, using(crate::proofs::Lines::stays))]
     pub(crate) fn ask(&mut self, alloc: Global, query: &[u8]) -> Result<Vec<u8>, ReplayFault>
         ensures line { IsOfLine self.old.line self.new.line }
     {
-        if let Some(words) = query.strip_prefix(b"qRcmd,") {
-            return self.tell(alloc, words);
+        match query.strip_prefix(b"qRcmd,") {
+            Some(digits) => self.tell(alloc, digits),
+            None => Ok(self.told_of(alloc, query)?),
         }
+    }
+
+    /// What is told of the machine and of what a session can.
+    fn told_of(&self, alloc: Global, query: &[u8]) -> Result<Vec<u8>, Memory> {
         if let Some(range) = query.strip_prefix(b"qXfer:features:read:target.xml:") {
-            return Ok(features_text(alloc, range)?);
+            return features_text(alloc, range);
         }
         if let Some(thread) = query.strip_prefix(b"qThreadExtraInfo,") {
-            return Ok(thread_text(alloc, &self.line, thread)?);
+            return thread_text(alloc, &self.line, thread);
         }
         match query {
-            b"qfThreadInfo" => Ok(threads_text(alloc, self.line.harts())?),
-            b"qC" => Ok(chosen_text(alloc, self.shown)?),
-            _ => Ok(constant_text(alloc, query)?),
+            b"qfThreadInfo" => threads_text(alloc, self.line.harts()),
+            b"qC" => chosen_text(alloc, self.shown),
+            _ => constant_text(alloc, query),
         }
     }
 }

@@ -2,7 +2,7 @@
 
 ghost use Rattle.std.specs.Prelude.{◌≡◌, ◌<◌, ◌++◌, slice_index, IfOk, OnOk, option_map};
 ghost use Rattle.rv32_hart.specs.Csrs.{read_csr};
-ghost use Rattle.debugging.specs.Shown.{word_digits, words_of, registers_text, register_at};
+ghost use Rattle.debugging.specs.Shown.{word_digits, words_of, registers_text, register_at, or_wrong};
 
 use ft_types::Memory;
 use rv32_hart::HartState;
@@ -86,18 +86,14 @@ pub(crate) fn registers_text(alloc: Global, hart: &HartState) -> Result<Vec<u8>,
     Ok(text)
 }
 
-/// The register with this number, where there is one.
-pub(crate) fn register_text(
-    alloc: Global,
-    hart: &HartState,
-    number: u32,
-) -> Result<Option<Vec<u8>>, Memory>
-    ensures { IfOk result (λ text. option_map (λ t. t.items) text ≡ option_map word_digits (register_at hart.now number)) }
+/// The register with this number; where there is none, that it is wrong.
+pub(crate) fn register_text(alloc: Global, hart: &HartState, number: u32) -> Result<Vec<u8>, Memory>
+    ensures { IfOk result (λ text. text.items ≡ or_wrong (option_map word_digits (register_at hart.now number))) }
 {
     let Some(word) = register_word(hart, number) else {
-        return Ok(None);
+        return Ok(b"E02".to_vec(alloc)?);
     };
     let mut text = Vec::new(alloc);
     put_word(&mut text, word)?;
-    Ok(Some(text))
+    Ok(text)
 }

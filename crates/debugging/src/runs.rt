@@ -1,8 +1,9 @@
 //! Ways through a timeline.
 
-ghost use Rattle.std.specs.Prelude.{◌≡◌, ◌+◌, ◌<◌, ◌≤◌, IfSome, IfNone, IfOk, OnOk, Some, true, false, length, slice_get};
+ghost use Rattle.std.specs.Prelude.{◌≡◌, ◌<◌, ◌≤◌, IfSome, IfNone, IfOk, Some, length, slice_get};
 ghost use Rattle.hart_lease.specs.Runs.{counts_of};
-ghost use Rattle.debugging.specs.Sessions.{IsOfLine, IsFirstWith, IsBeforeStep};
+ghost use Rattle.debugging.specs.Sessions.{IsOfLine};
+ghost use Rattle.debugging.specs.Ways.{IsNextOr, HasStepped, HasSteppedBack, HasContinued, HasContinuedBack, Goes, arrival_at, reason_of_stop, watching_stop};
 
 use crate::commands::Way;
 use crate::stops::Reason;
@@ -39,99 +40,96 @@ pub(crate) fn hart_at(line: &Timeline, hart: Hart) -> Option<&HartState>
 }
 
 /// The hart of the step that comes next; this one, where none does.
-fn next_hart(line: &Timeline, otherwise: Hart) -> Hart {
-    line.next().unwrap_or(otherwise)
+fn next_hart(line: &Timeline, otherwise: Hart) -> Hart
+    ensures { IsNextOr line.now result otherwise }
+{
+    match line.next() {
+        Some(hart) => hart,
+        None => otherwise,
+    }
 }
 
-/// On to the first moment at which the hart has one step more. Whether there is one.
+/// At the hart, for this reason.
+fn arrived(hart: Hart, reason: Reason) -> Arrival
+    ensures { result ≡ arrival_at hart reason }
+{
+    Arrival { hart, reason }
+}
+
+/// On to the first moment at which the hart has one step more.
 #[tactic(auto, using(crate::proofs::Lines::led_on, crate::proofs::Lines::stays, crate::proofs::Lines::goes_on))]
-pub(crate) fn step(line: &mut Timeline, hart: Hart) -> Result<bool, ReplayFault>
+fn step(line: &mut Timeline, hart: Hart) -> Result<Arrival, ReplayFault>
     ensures line { IsOfLine line.old line.new }
-    ensures led { IfOk result (λ led. led ≡ true → IsFirstWith line.new hart (counts_of line.old.stands.machine hart + 1)) }
-    ensures end { IfOk result (λ led. led ≡ false → line.new ≡ line.old) }
+    ensures went { IfOk result (HasStepped line.old line.new hart) }
 {
     let count = count_of(line, hart);
     let is_led = line.go_to_count(hart, count + 1)?;
-    Ok(is_led)
+    if is_led {
+        return Ok(arrived(hart, Reason::Led));
+    }
+    Ok(arrived(hart, Reason::End))
 }
 
-/// Back to where the hart's last step comes next. Whether there was one.
+/// Back to where the hart's last step comes next.
 #[tactic(auto, using(crate::proofs::Lines::led_on, crate::proofs::Lines::stays, crate::proofs::Lines::goes_on))]
-pub(crate) fn step_back(line: &mut Timeline, hart: Hart) -> Result<bool, ReplayFault>
+fn step_back(line: &mut Timeline, hart: Hart) -> Result<Arrival, ReplayFault>
     ensures line { IsOfLine line.old line.new }
-    ensures led { IfOk result (λ led. led ≡ true → IsBeforeStep line.new hart (counts_of line.old.stands.machine hart)) }
+    ensures went { IfOk result (HasSteppedBack line.old line.new hart) }
 {
     let count = count_of(line, hart);
     if count == 0 {
-        return Ok(false);
+        return Ok(arrived(hart, Reason::Begin));
     }
     let is_there = line.go_to_count(hart, count)?;
-    if !is_there {
-        return Ok(false);
-    }
     let now = line.now();
+    if !is_there {
+        return Ok(arrived(hart, Reason::Begin));
+    }
     if now == 0 {
-        return Ok(false);
+        return Ok(arrived(hart, Reason::Begin));
     }
     line.go_to(now - 1)?;
-    Ok(true)
+    Ok(arrived(hart, Reason::Led))
 }
 
-/// What the point with this number is a reason for.
-fn reason_at(points: &[Point], number: usize) -> Reason {
+/// What the stop is a reason for.
+fn reason_of(points: &[Point], stop: Stop) -> Reason
+    ensures { result ≡ reason_of_stop points.now stop }
+{
+    match stop {
+        Stop::At(number) => match points.get(number) {
+            Some(point) => Reason::Point(*point),
+            None => Reason::Led,
+        },
+        Stop::End => Reason::End,
+        Stop::Begin => Reason::Begin,
+    }
+}
+
+/// How many steps lie between the stop and where gdb looks at what is watched.
+fn watching(points: &[Point], stop: Stop) -> u64
+    ensures { result ≡ watching_stop points.now stop }
+{
+    let Stop::At(number) = stop else {
+        return 0;
+    };
     match points.get(number) {
-        Some(point) => Reason::Point(*point),
-        None => Reason::Led,
+        Some(Point::Watch(_, _)) => 1,
+        _ => 0,
     }
-}
-
-/// Whether it is a point that watches.
-fn is_watch(reason: Reason) -> bool {
-    matches!(reason, Reason::Point(Point::Watch(_, _)))
-}
-
-/// Back to the moment before, where there is one and the reason is a point that watches.
-#[tactic(auto, using(crate::proofs::Lines::led_on, crate::proofs::Lines::stays, crate::proofs::Lines::goes_on))]
-fn go_before(line: &mut Timeline, reason: Reason) -> Result<(), ReplayFault>
-    ensures line { IsOfLine line.old line.new }
-{
-    let here = line.now();
-    if here == 0 || !is_watch(reason) {
-        return Ok(());
-    }
-    line.go_to(here - 1)
-}
-
-/// The step that comes next, where there is one.
-fn forward(line: &mut Timeline) -> Result<(), ReplayFault>
-    ensures line { IsOfLine line.old line.new }
-{
-    let _is_done = line.forward()?;
-    Ok(())
-}
-
-/// That step, where the reason is a point that watches.
-#[tactic(auto, using(crate::proofs::Lines::led_on, crate::proofs::Lines::stays, crate::proofs::Lines::goes_on))]
-fn go_behind(line: &mut Timeline, reason: Reason) -> Result<(), ReplayFault>
-    ensures line { IsOfLine line.old line.new }
-{
-    if is_watch(reason) {
-        return forward(line);
-    }
-    Ok(())
 }
 
 /// On to a point or to the end. A step that is watched comes next then: gdb takes it before it looks at the word.
 #[tactic(auto, using(crate::proofs::Lines::led_on, crate::proofs::Lines::stays, crate::proofs::Lines::goes_on))]
 fn go_on(line: &mut Timeline, points: &[Point], hart: Hart) -> Result<Arrival, ReplayFault>
     ensures line { IsOfLine line.old line.new }
+    ensures went { IfOk result (HasContinued points.now hart line.old line.new) }
 {
-    let reason = match line.until(points)? {
-        Stop::At(number) => reason_at(points, number),
-        Stop::End | Stop::Begin => Reason::End,
-    };
-    go_before(line, reason)?;
+    let stop = line.until(points)?;
+    let there = line.now();
+    line.go_to(there.saturating_sub(watching(points, stop)))?;
     let hart = next_hart(line, hart);
+    let reason = reason_of(points, stop);
     Ok(Arrival { hart, reason })
 }
 
@@ -139,20 +137,16 @@ fn go_on(line: &mut Timeline, points: &[Point], hart: Hart) -> Result<Arrival, R
 #[tactic(auto, using(crate::proofs::Lines::led_on, crate::proofs::Lines::stays, crate::proofs::Lines::goes_on))]
 fn go_back(line: &mut Timeline, points: &[Point], hart: Hart) -> Result<Arrival, ReplayFault>
     ensures line { IsOfLine line.old line.new }
+    ensures went { IfOk result (HasContinuedBack points.now hart line.old line.new) }
 {
-    let reason = match line.back_until(points)? {
-        Stop::At(number) => reason_at(points, number),
-        Stop::Begin | Stop::End => Reason::Begin,
-    };
+    // proof: the line has this moment.
+    let _from = line.now();
+    let stop = line.back_until(points)?;
     let hart = next_hart(line, hart);
-    go_behind(line, reason)?;
+    let there = line.now();
+    line.go_to(there + watching(points, stop))?;
+    let reason = reason_of(points, stop);
     Ok(Arrival { hart, reason })
-}
-
-/// Where a hart was led, or did not come.
-fn arrived(hart: Hart, is_led: bool, otherwise: Reason) -> Arrival {
-    let reason = if is_led { Reason::Led } else { otherwise };
-    Arrival { hart, reason }
 }
 
 /// Goes this way, with the steps of this hart, or up to one of these points.
@@ -163,10 +157,11 @@ pub(crate) fn go(
     hart: Hart,
 ) -> Result<Arrival, ReplayFault>
     ensures line { IsOfLine line.old line.new }
+    ensures went { IfOk result (Goes way points.now hart line.old line.new) }
 {
     match way {
-        Way::Step => Ok(arrived(hart, step(line, hart)?, Reason::End)),
-        Way::StepBack => Ok(arrived(hart, step_back(line, hart)?, Reason::Begin)),
+        Way::Step => step(line, hart),
+        Way::StepBack => step_back(line, hart),
         Way::Continue => go_on(line, points, hart),
         Way::ContinueBack => go_back(line, points, hart),
     }

@@ -1,18 +1,19 @@
 //! A session: what is asked, and what is answered.
 
-ghost use Rattle.std.specs.Prelude.{◌≡◌, ℕ, List, IfOk, Some, codes, option_map};
-ghost use Rattle.moments.specs.declared.access.Bytes.{Bytes};
-ghost use Rattle.rv32_hart.specs.Hart.{Hart as HartRecord};
-ghost use Rattle.debugging.specs.declared.commands.Show.TheVariants as ShowOf;
-ghost use Rattle.debugging.specs.Shown.{word_digits, registers_text, register_at, or_wrong};
-ghost use Rattle.debugging.specs.Memories.{ShowsBytes, memory_answer};
-ghost use Rattle.debugging.specs.Asked.{AsksForAnother, AsksForRegister, AsksForMemory};
+ghost use Rattle.std.specs.Prelude.{◌≡◌, ◌⊎◌, ℕ, Bool, true, List, IfOk, IfSome, None, Some, codes};
+ghost use Rattle.debugging.specs.declared.commands.Command.{Command as CommandOf};
+ghost use Rattle.debugging.specs.declared.commands.Show.TheVariants as Show;
+ghost use Rattle.debugging.specs.declared.numbers.Thread.TheVariants as Thread;
+ghost use Rattle.debugging.specs.Asked.{IsOfHart};
+ghost use Rattle.debugging.specs.Commands.{AsksFor, IsStill};
+ghost use Rattle.debugging.specs.Notes.{HasChosen, HasNoted, harts_of, told};
 ghost use Rattle.debugging.specs.Sessions.{IsShown, IsOfLine};
-ghost use Rattle.debugging.specs.Answers.{Says};
+ghost use Rattle.debugging.specs.Ways.{IsLed, HasGone};
+ghost use Rattle.debugging.specs.Answers.{Says, IsShowing, Answers};
 
-use crate::commands::{Command, Show, Way, read_command};
+use crate::commands::{Command, Note, Other, Show, Way, read_command};
 use crate::memory::memory_text;
-use crate::numbers::read_thread;
+use crate::numbers::{Thread, hart_of};
 use crate::points::{drop_point, put_point};
 use crate::registers::{register_text, registers_text};
 use crate::runs::{go, hart_at};
@@ -20,6 +21,7 @@ use crate::stops::{Reason, stop_text};
 use ft_types::{Hart, Memory};
 use hart_replay::ReplayFault;
 use moments::{Point, Timeline};
+use rv32_hart::HartState;
 use std::alloc::Global;
 use std::marker::Model;
 
@@ -54,19 +56,28 @@ const WRONG: &[u8] = b"E02";
 /// The log leads nowhere from here.
 const NOWHERE: &[u8] = b"E03";
 
-/// What was wanted, where there is such a thing.
-fn or_wrong(alloc: Global, text: Option<Vec<u8>>) -> Result<Vec<u8>, Memory>
-    ensures { IfOk result (λ out. out.items ≡ or_wrong (option_map (λ t. t.items) text)) }
+/// That the past is not changed.
+fn past(alloc: Global) -> Result<Answer, Memory>
+    ensures { IfOk result (Says (codes "E01")) }
 {
-    match text {
-        Some(text) => Ok(text),
-        None => Ok(WRONG.to_vec(alloc)?),
-    }
+    Ok(Answer::Says(PAST.to_vec(alloc)?))
 }
 
 /// `OK`, or that it is wrong.
-fn told(alloc: Global, is_right: bool) -> Result<Vec<u8>, Memory> {
+fn told(alloc: Global, is_right: bool) -> Result<Vec<u8>, Memory>
+    ensures { IfOk result (λ text. text.items ≡ told is_right) }
+{
     Ok(if is_right { b"OK" } else { WRONG }.to_vec(alloc)?)
+}
+
+/// That the log leads nowhere, where memory is not what lacks.
+fn nowhere(alloc: Global, fault: ReplayFault) -> Result<Vec<u8>, Memory>
+    ensures { IfOk result (λ text. text.items ≡ codes "E03") }
+{
+    match fault {
+        ReplayFault::Memory => Err(Memory),
+        _ => Ok(NOWHERE.to_vec(alloc)?),
+    }
 }
 
 impl Model for Session {
@@ -97,151 +108,176 @@ impl Session {
         &self.line
     }
 
-    /// Chooses a hart for what more is asked, or for what is led. Every thread, and any, leave it as it was.
-    fn choose(&mut self, what: &[u8]) -> bool
-        ensures line { self.new.line ≡ self.old.line }
+    /// The hart of a thread, where it is one.
+    fn hart_of(&self, thread: Thread) -> Option<Hart>
+        ensures some { (hart : ℕ) → IsOfHart (harts_of self.now) thread hart → result ≡ Some hart }
+        ensures any { thread ≡ Thread.Any → result ≡ None }
     {
-        let (kind, thread) = match what {
-            [kind, thread @ ..] => (*kind, thread),
-            [] => return false,
+        hart_of(thread, self.line.harts())
+    }
+
+    /// Chooses a hart for what more is asked, or for what is led. Every thread, and any, leave it as it was.
+    fn choose(&mut self, kind: u8, thread: Thread) -> bool
+        ensures line { self.new.line ≡ self.old.line }
+        ensures chosen { (hart : ℕ) → IsOfHart (harts_of self.old) thread hart → HasChosen kind hart self.old self.new result }
+    {
+        let Some(hart) = self.hart_of(thread) else {
+            return matches!(thread, Thread::Any);
         };
-        let is_any = matches!(thread, b"0" | b"-1");
-        match read_thread(thread, self.line.harts()) {
-            None => is_any,
-            Some(hart) if kind == b'g' => {
-                self.shown = hart;
-                true
-            }
-            Some(hart) => {
-                self.led = hart;
-                kind == b'c'
-            }
+        if kind == b'g' {
+            self.shown = hart;
+            return true;
+        }
+        self.led = hart;
+        kind == b'c'
+    }
+
+    /// The hart of a thread, where it is one; else the one that was led last.
+    fn led_by(&self, thread: Thread) -> Hart
+        ensures { (hart : ℕ) → IsLed self.now thread hart → result ≡ hart }
+    {
+        match self.hart_of(thread) {
+            Some(hart) => hart,
+            None => self.led,
         }
     }
 
     /// Goes a way, and says why it ends.
-    fn go(&mut self, alloc: Global, way: Way, thread: &[u8]) -> Result<Vec<u8>, ReplayFault>
+    fn go(&mut self, alloc: Global, way: Way, thread: Thread) -> Result<Vec<u8>, ReplayFault>
         ensures line { IsOfLine self.old.line self.new.line }
+        ensures went { IfOk result (λ text. (hart : ℕ) → IsLed self.old thread hart → HasGone self.old self.new way hart text.items) }
     {
-        let hart = read_thread(thread, self.line.harts()).unwrap_or(self.led);
+        let hart = self.led_by(thread);
         let arrival = go(&mut self.line, &self.points, way, hart)?;
         self.shown = arrival.hart;
         self.led = arrival.hart;
         Ok(stop_text(alloc, arrival.hart, arrival.reason)?)
     }
 
-    /// What shows the chosen hart so, or nothing.
-    fn show_hart(&self, alloc: Global, show: Show) -> Result<Option<Vec<u8>>, Memory>
-        ensures registers { (h : HartRecord) → show ≡ ShowOf.Registers → IsShown self.now h →
-            IfOk result (λ text. option_map (λ t. t.items) text ≡ Some (registers_text h)) }
-        ensures register { (h : HartRecord) (n : ℕ) → show ≡ ShowOf.Register n → IsShown self.now h →
-            IfOk result (λ text. option_map (λ t. t.items) text ≡ option_map word_digits (register_at h n)) }
+    /// What a packet that asks to go is answered.
+    fn lead(&mut self, alloc: Global, way: Way, thread: Thread) -> Result<Answer, Memory>
+        ensures line { IsOfLine self.old.line self.new.line }
+        ensures went { IfOk result (λ a. (hart : ℕ) → IsLed self.old thread hart →
+            Says (codes "E03") a ⊎ ((text : List ℕ) × HasGone self.old self.new way hart text × Says text a)) }
     {
-        let Some(hart) = hart_at(&self.line, self.shown) else {
-            return Ok(None);
-        };
-        match show {
-            Show::Why | Show::Memory(_) => Ok(Some(stop_text(alloc, self.shown, Reason::Led)?)),
-            Show::Registers => Ok(Some(registers_text(alloc, hart)?)),
-            Show::Register(number) => register_text(alloc, hart, number),
+        match self.go(alloc, way, thread) {
+            Ok(text) => Ok(Answer::Says(text)),
+            Err(fault) => Ok(Answer::Says(nowhere(alloc, fault)?)),
+        }
+    }
+
+    /// The hart of which more is asked, where the machine has it.
+    fn chosen(&self) -> Option<&HartState>
+        ensures { IfSome result (λ h. IsShown self.now h.now) }
+    {
+        hart_at(&self.line, self.shown)
+    }
+
+    /// What shows the registers of the chosen hart.
+    fn show_registers(&self, alloc: Global) -> Result<Vec<u8>, Memory>
+        ensures { IfOk result (λ text. IsShowing Show.Registers self.now text.items) }
+    {
+        match self.chosen() {
+            Some(hart) => registers_text(alloc, hart),
+            None => Ok(WRONG.to_vec(alloc)?),
+        }
+    }
+
+    /// What shows a register of the chosen hart.
+    fn show_register(&self, alloc: Global, number: u32) -> Result<Vec<u8>, Memory>
+        ensures { IfOk result (λ text. IsShowing (Show.Register number) self.now text.items) }
+    {
+        match self.chosen() {
+            Some(hart) => register_text(alloc, hart, number),
+            None => Ok(WRONG.to_vec(alloc)?),
         }
     }
 
     /// What shows the machine so.
     fn show(&self, alloc: Global, show: Show) -> Result<Vec<u8>, Memory>
-        ensures registers { (h : HartRecord) → show ≡ ShowOf.Registers → IsShown self.now h → IfOk result (λ text. text.items ≡ registers_text h) }
-        ensures register { (h : HartRecord) (n : ℕ) → show ≡ ShowOf.Register n → IsShown self.now h →
-            IfOk result (λ text. text.items ≡ or_wrong (option_map word_digits (register_at h n))) }
-        ensures memory { (range : Bytes) → show ≡ ShowOf.Memory range → IfOk result (λ text. (bytes : List ℕ) ×
-            ShowsBytes self.now.line.stands.machine.pages range.first range.length bytes × (text.items ≡ memory_answer range.length bytes)) }
+        ensures { IfOk result (λ text. IsShowing show self.now text.items) }
     {
         match show {
+            Show::Why => stop_text(alloc, self.shown, Reason::Led),
+            Show::Registers => self.show_registers(alloc),
+            Show::Register(number) => self.show_register(alloc, number),
             Show::Memory(range) => memory_text(alloc, &self.line, range),
-            _ => or_wrong(alloc, self.show_hart(alloc, show)?),
         }
     }
 
-    /// Does what a packet wants that is about points or threads. Whether it is right.
-    fn note(&mut self, command: &Command<'_>) -> Result<bool, Memory>
-        ensures line { self.new.line ≡ self.old.line }
+    /// What is answered to a packet that asks for it.
+    fn answer_show(&self, alloc: Global, show: Show) -> Result<Answer, Memory>
+        ensures { IfOk result (λ a. (text : List ℕ) × IsShowing show self.now text × Says text a) }
     {
-        match command {
-            Command::Choose(what) => Ok(self.choose(what)),
-            Command::IsThere(number) => Ok(read_thread(number, self.line.harts()).is_some()),
-            Command::Insert(point) => put_point(&mut self.points, *point),
-            Command::Remove(point) => {
-                drop_point(&mut self.points, *point);
+        Ok(Answer::Says(self.show(alloc, show)?))
+    }
+
+    /// Notes it. Whether it is right.
+    fn note(&mut self, note: Note) -> Result<bool, Memory>
+        ensures line { self.new.line ≡ self.old.line }
+        ensures noted { IfOk result (HasNoted note self.old self.new) }
+    {
+        match note {
+            Note::Choose(kind, thread) => Ok(self.choose(kind, thread)),
+            Note::IsThere(thread) => Ok(self.hart_of(thread).is_some()),
+            Note::Insert(point) => put_point(&mut self.points, point),
+            Note::Remove(point) => {
+                drop_point(&mut self.points, point);
                 Ok(true)
             }
-            _ => Ok(false),
         }
     }
 
-    /// What such a packet is answered.
-    fn answer_note(&mut self, alloc: Global, command: &Command<'_>) -> Result<Vec<u8>, Memory>
+    /// What is answered to something that is to be noted.
+    fn answer_note(&mut self, alloc: Global, note: Note) -> Result<Answer, Memory>
         ensures line { self.new.line ≡ self.old.line }
+        ensures noted { IfOk result (λ a. (is_right : Bool) × HasNoted note self.old self.new is_right × Says (told is_right) a) }
     {
-        let is_right = self.note(command)?;
-        told(alloc, is_right)
+        let is_right = self.note(note)?;
+        Ok(Answer::Says(told(alloc, is_right)?))
     }
 
-    /// What is said to the command.
-    #[tactic(auto, using(crate::proofs::Lines::led_on, crate::proofs::Lines::stays, crate::proofs::Lines::goes_on))]
-    fn say(&mut self, alloc: Global, command: &Command<'_>) -> Result<Vec<u8>, ReplayFault>
+    /// What a query is answered.
+    fn answer_query(&mut self, alloc: Global, query: &[u8]) -> Result<Vec<u8>, Memory>
         ensures line { IsOfLine self.old.line self.new.line }
     {
-        match command {
-            Command::Go(way, thread) => self.go(alloc, *way, thread),
-            Command::Query(packet) => self.ask(alloc, packet),
-            Command::Unknown => Ok(Vec::new(alloc)),
-            _ => Ok(self.answer_note(alloc, command)?),
+        match self.ask(alloc, query) {
+            Ok(text) => Ok(text),
+            Err(fault) => nowhere(alloc, fault),
         }
     }
 
-    /// What the command is answered.
-    #[tactic(auto, using(crate::proofs::Lines::led_on, crate::proofs::Lines::stays, crate::proofs::Lines::goes_on))]
-    fn obey(&mut self, alloc: Global, command: &Command<'_>) -> Result<Answer, ReplayFault>
+    /// What anything else is answered.
+    #[tactic(auto, using(crate::proofs::Lines::stays))]
+    fn obey(&mut self, alloc: Global, other: Other<'_>) -> Result<Answer, Memory>
         ensures line { IsOfLine self.old.line self.new.line }
     {
-        match command {
-            Command::Kill => Ok(Answer::Over),
-            Command::Detach => Ok(Answer::SaysLast(told(alloc, true)?)),
-            _ => Ok(Answer::Says(self.say(alloc, command)?)),
-        }
-    }
-
-    /// What the command is answered, or that the log leads nowhere.
-    fn lead(&mut self, alloc: Global, command: &Command<'_>) -> Result<Answer, Memory>
-        ensures line { IsOfLine self.old.line self.new.line }
-    {
-        match self.obey(alloc, command) {
-            Ok(answer) => Ok(answer),
-            Err(ReplayFault::Memory) => Err(Memory),
-            Err(_) => Ok(Answer::Says(NOWHERE.to_vec(alloc)?)),
+        match other {
+            Other::Query(query) => Ok(Answer::Says(self.answer_query(alloc, query)?)),
+            Other::Detach => Ok(Answer::SaysLast(told(alloc, true)?)),
+            Other::Kill => Ok(Answer::Over),
+            Other::Wrong => Ok(Answer::Says(told(alloc, false)?)),
+            Other::Unknown => Ok(Answer::Says(Vec::new(alloc))),
         }
     }
 
     /// What the packet that says these bytes is answered.
     pub fn answer(&mut self, alloc: Global, packet: &[u8]) -> Result<Answer, Memory>
-        // What is shown is the machine where the timeline stands, and it stays there.
-        ensures registers { (h : HartRecord) → packet.now ≡ codes "g" → IsShown self.old h →
-            IfOk result (Says (registers_text h)) × (self.new ≡ self.old) }
-        ensures register { (h : HartRecord) (n : ℕ) → AsksForRegister packet.now n → IsShown self.old h →
-            IfOk result (Says (or_wrong (option_map word_digits (register_at h n)))) × (self.new ≡ self.old) }
+        // What a packet asks for is answered as it must be.
+        ensures answers { (command : CommandOf) → AsksFor packet.now command → IfOk result (Answers command self.old self.new) }
 
-        ensures memory { (address many : ℕ) → AsksForMemory packet.now address many → IfOk result (λ a. (bytes : List ℕ) ×
-            ShowsBytes self.old.line.stands.machine.pages address many bytes × Says (memory_answer many bytes) a) × (self.new ≡ self.old) }
-
-        // The past is not changed.
-        ensures another { AsksForAnother packet.now → IfOk result (Says (codes "E01")) × (self.new ≡ self.old) }
+        // What is only shown, or would be another past, changes nothing.
+        ensures still { (command : CommandOf) → AsksFor packet.now command → IsStill command → self.new ≡ self.old }
 
         // It stands on the same line, whatever comes.
         ensures line { IsOfLine self.old.line self.new.line }
     {
         match read_command(packet) {
-            Command::Show(show) => Ok(Answer::Says(self.show(alloc, show)?)),
-            Command::Change => Ok(Answer::Says(PAST.to_vec(alloc)?)),
-            command => self.lead(alloc, &command),
+            Command::Show(show) => self.answer_show(alloc, show),
+            Command::Change => past(alloc),
+            Command::Note(note) => self.answer_note(alloc, note),
+            Command::Go(way, thread) => self.lead(alloc, way, thread),
+            Command::Other(other) => self.obey(alloc, other),
         }
     }
 }
