@@ -182,7 +182,7 @@ ends 'a client whose words are taken no more' "$client" 'fault full' refused.ful
 for k in 0 1 2; do stop "${keeper[$k]}"; done
 echo 03070001 >> words
 asked=$((asked + 1))
-"$live" client words 8 300 to in from out > answers &
+"$live" client words 8 300 to in from out > answers 2> faults.client &
 client=$!
 for k in 0 1; do
     printf 'ack 1 %s 999999 999999' "$k" > "acks.$k"

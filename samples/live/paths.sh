@@ -89,7 +89,7 @@ lead 2 .b 0 1
 ask 'paths of another site are removed' .b 100
 for k in 0 1 2; do is "keeper $k runs" yes "$(runs "${keeper[$k]}" && echo yes)"; done
 sleep 1
-is 'the path is told once' 'fault file acks.0.a' "$(faults faults.0)"
+is 'each path is told once' 'fault file acks.0.a fault file frames.0.a' "$(faults faults.0 | sort | tr '\n' ' ' | sed 's/ $//')"
 stop "$primary"
 
 # The path to a keeper is removed, which is gone.

@@ -1,11 +1,10 @@
 -- Deeds one behind the other, and what they note.
 use Rattle.std.proofs.Common.{◌≡◌, ◌++◌, ◌∷◌, [], ◌∙◌, ℕ, List, Option, Some, map, slice_set, refl, ap, sym, append_assoc}
-use Rattle.std.proofs.lemmas.List.{map-append}
 use Rattle.attendance.specs.declared.finding.Finding.{Finding}
 use Rattle.primary.specs.declared.released.Released.{Released}
 use Rattle.primary_turns.specs.declared.deeds.Deed.{Deed}
 use Rattle.primary_turns.specs.declared.deeds.Deed.TheVariants.{Send, Tell, Full, Anew, HasRead, AnswersRead, Attend}
-use Rattle.primary_turns.specs.Deeds.{Adds, AreFindings, noted, tells}
+use Rattle.primary_turns.specs.Deeds.{AreFindings, noted, tells}
 
 -- what deeds note that are done one behind the other
 pub noted_append : (told : List (Option ℕ)) (first rest : List Deed) → noted told (first ++ rest) ≡ noted (noted told first) rest
@@ -37,15 +36,7 @@ pub noted_more : (told mid new : List (Option ℕ)) (so_far more : List Deed) (d
 noted_more told mid new so_far more deed was is parts =
     is ∙ ap (λ (t : List (Option ℕ)). noted t (deed ∷ [])) was ∙ sym (noted_append told so_far (deed ∷ [])) ∙ ap (noted told) (sym parts)
 
--- to one finding more it is attended
-pub findings_more : (old mid new : List Deed) (finding : Finding) → Adds old mid AreFindings → new ≡ mid ++ Attend finding ∷ [] → Adds old new AreFindings
-findings_more old mid new finding so_far is = (
-  so_far.0 ++ Attend finding ∷ [],
-  is ∙ ap (λ (ds : List Deed). ds ++ Attend finding ∷ []) so_far.1 ∙ append_assoc old so_far.0 (Attend finding ∷ []),
-  (so_far.2.0 ++ finding ∷ [], ap (λ (ds : List Deed). ds ++ Attend finding ∷ []) so_far.2.1 ∙ sym (map-append Attend so_far.2.0 (finding ∷ []))),
-)
-
--- which notes nothing
+-- what is found of keepers notes nothing
 noted_findings : (told : List (Option ℕ)) (findings : List Finding) → noted told (map Attend findings) ≡ told
 noted_findings told [] = refl
 noted_findings told (finding ∷ findings) = noted_findings told findings

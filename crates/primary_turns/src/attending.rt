@@ -1,26 +1,26 @@
-//! What a tick finds of keepers is attended to.
+//! What a tick finds of keepers is to be attended to.
 
-ghost use Rattle.std.specs.Prelude.{OnOk};
-ghost use Rattle.primary_turns.specs.Deeds.{Adds, AreFindings};
+ghost use Rattle.std.specs.Prelude.{◌≡◌, ◌++◌, ◌∷◌, [], map, OnOk};
+ghost use Rattle.primary_turns.specs.declared.deeds.Deed.TheVariants.{Attend as AttendTo};
 
 use crate::deeds::Deed;
-use crate::read::Sent;
-use attendance::Attendance;
+use attendance::Finding;
 use ft_types::Memory;
-use std::alloc::Global;
+use std::result::Result;
 
-/// Has it attended to what a tick finds of keepers, where it is known whether outputs wait for them.
-pub(crate) fn attend(
-    alloc: Global,
-    attendance: &mut Attendance,
-    sent: &Sent,
-    waits: bool,
-    deeds: &mut Vec<Deed>,
-) -> Result<(), Memory>
-    ensures { OnOk result (Adds deeds.old.items deeds.new.items AreFindings) }
+/// Has a finding attended to.
+fn attend(deeds: &mut Vec<Deed>, finding: Finding) -> Result<(), Memory>
+    ensures { OnOk result (deeds.new.items ≡ deeds.old.items ++ AttendTo finding ∷ []) }
 {
-    for finding in attendance.tick(alloc, sent.last(), waits)? {
-        deeds.push(Deed::Attend(finding))?;
+    Ok(deeds.push(Deed::Attend(finding))?)
+}
+
+/// Has findings attended to, one behind the other.
+pub(crate) fn attend_all(deeds: &mut Vec<Deed>, findings: &[Finding]) -> Result<(), Memory>
+    ensures { OnOk result (deeds.new.items ≡ deeds.old.items ++ map AttendTo findings.now) }
+{
+    for finding in findings {
+        attend(deeds, *finding)?;
     }
     Ok(())
 }

@@ -7,7 +7,7 @@ ghost use Rattle.primary_turns.specs.Deeds.{Adds, AreAnswersRead, AreRead, noted
 ghost use Rattle.primary_turns.specs.Turns.{ComesAgain, HearsRequest, IsBusy, IsKnown, Takes, seen};
 ghost use Rattle.primary_turns.specs.declared.said.Said.TheVariants as said;
 
-use crate::attending::attend;
+use crate::attending::attend_all;
 use crate::deeds::Deed;
 use crate::pace::Pace;
 use crate::read::Sent;
@@ -161,6 +161,22 @@ fn take_acknowledgement(
     )
 }
 
+/// Takes a tick: it is attended to what that finds of keepers.
+fn take_tick(
+    alloc: Global,
+    leader: &Leader,
+    notes: &mut Notes,
+    deeds: &mut Vec<Deed>,
+) -> Result<(), Memory>
+    ensures { OnOk result (Adds deeds.old.items deeds.new.items
+        (Takes (seen leader.now notes.old.told) said.Tick (seen leader.now notes.new.told))) }
+{
+    let waits = leader.kept() > 0;
+    let findings = notes.attendance.tick(alloc, notes.sent.last(), waits)?;
+    attend_all(deeds, &findings)?;
+    Ok(())
+}
+
 /// Takes what is said. Whether it need not come again.
 pub(crate) fn take_one(
     alloc: Global,
@@ -186,8 +202,7 @@ pub(crate) fn take_one(
             Ok(true)
         }
         Said::Tick => {
-            let waits = leader.kept() > 0;
-            attend(alloc, &mut notes.attendance, &notes.sent, waits, deeds)?;
+            take_tick(alloc, leader, notes, deeds)?;
             Ok(true)
         }
     }
