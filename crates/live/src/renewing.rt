@@ -1,4 +1,4 @@
-//! `renew IMAGE K LOG T with HANDED..`: a keeper that lost its log gets a new one, of what other keepers handed over to a term, from which on it acknowledges.
+//! `renew IMAGE K LOG T HANDED..`: a keeper that lost its log gets a new one, of what other keepers handed over to a term, from which on it acknowledges.
 
 ghost use Rattle.std.specs.Prelude.{◌≡◌, IfOk};
 ghost use Rattle.live.specs.Mending.{told_of_renewing};

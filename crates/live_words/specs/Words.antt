@@ -36,7 +36,7 @@ Hands words (Hand w) =
     IsNumberAt words 3 w.term
 Hands words other = ⊥
 
--- IMAGE K LOG T with HANDED..
+-- IMAGE K LOG T HANDED..
 abbrev pub Renews : Words → Task → Type 0
 Renews words (Renew w) =
     (slice_get words.words.items 0 ≡ Some w.image) × IsNumberAt words 1 w.keeper × (slice_get words.words.items 2 ≡ Some w.log) ×

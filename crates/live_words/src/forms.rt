@@ -30,11 +30,11 @@ pub(crate) static FORMS: [Form; 8] = [
     },
     Form {
         name: "renew",
-        usage: "live renew IMAGE K LOG T with HANDED..",
+        usage: "live renew IMAGE K LOG T HANDED..",
         about: "makes a new log for keeper K, who lost his, of what others handed over to term T",
         words: &["image", "keeper", "log", "term"],
-        has_paths: false,
-        behind: &["with"],
+        has_paths: true,
+        behind: &[],
     },
     Form {
         name: "primary",

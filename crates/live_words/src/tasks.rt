@@ -34,7 +34,7 @@ pub struct HandWords<'a> {
     pub term: Term,
 }
 
-/// `renew IMAGE K LOG T with HANDED..`: a keeper that lost its log gets a new one.
+/// `renew IMAGE K LOG T HANDED..`: a keeper that lost its log gets a new one.
 #[derive(Drop)]
 pub struct RenewWords<'a> {
     pub image: &'a str,
