@@ -148,7 +148,7 @@ refuses 'of its own' 1 'fault handed keeper' renew "$image" 1 "$work/few" 3 "${h
 refuses "of no keeper's number" 1 'fault log keeper' renew "$image" 3 "$work/few" 3 "${handed[@]}"
 refuses 'of what is no file' 1 "fault file $work/none" renew "$image" 2 "$work/few" 3 "${handed[0]}" "$work/none"
 head -c -1 "${handed[1]}" > "$work/torn"
-refuses 'of a torn one' 1 'fault handed 1 length' renew "$image" 2 "$work/few" 3 "${handed[0]}" "$work/torn"
+refuses 'of a torn one' 1 'fault handed 1 line' renew "$image" 2 "$work/few" 3 "${handed[0]}" "$work/torn"
 for name in few few.fences few.failed; do if [ -e "$work/$name" ]; then fail "what is refused leaves no $name" < /dev/null; else pass; fi; done
 : > "$work/half.failed"
 refuses 'beside a mark' 1 'fault log there' renew "$image" 2 "$work/half" 3 "${handed[@]}"
