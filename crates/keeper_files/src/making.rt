@@ -145,7 +145,7 @@ pub fn make_marked_files<D: Disk + Drop>(
     ensures known { IfOk result (λ files. (files.known.guest ≡ guest) × (files.known.pair ≡ pair)) }
     ensures made { IfOk result (λ files. (fences : identity_of_specs) × Does (D.deeds disk) (D.deeds files.disk)
         (making_marked files.known.own fences ++ naming guest (keeps_of keeper pair files.known.own fences))) }
-    // Where one of them is there, nothing is changed, but for the mark where another one is made meanwhile.
+// Where one of them is there, nothing is changed, but for the mark where another one is made meanwhile.
 {
     look(&mut disk)?;
     mark(&mut disk)?;

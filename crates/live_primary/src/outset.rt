@@ -55,7 +55,12 @@ pub fn read_image_file<R: Paths + AllocGlobal>(rt: &R, name: &str) -> Result<Ima
 }
 
 /// What these bytes hand over, behind the line of their pair.
-pub(crate) fn log_in(alloc: Global, guest: Guest, number: usize, bytes: &[u8]) -> Result<HandedLog, Fault>
+pub(crate) fn log_in(
+    alloc: Global,
+    guest: Guest,
+    number: usize,
+    bytes: &[u8],
+) -> Result<HandedLog, Fault>
     ensures { IfOk result (λ log. IsWhole guest bytes.now log) }
 {
     match read_handed_log(alloc, guest, bytes) {

@@ -8,8 +8,8 @@ ghost use Rattle.wire.specs.Pairs.{IsLongWord};
 
 use crate::forms::FORMS;
 use crate::tasks::{
-    CheckWords, ClientWords, HandWords, KeeperWords, MakeWords, MendWords, PrimaryWords, RenewWords,
-    Task,
+    CheckWords, ClientWords, HandWords, KeeperWords, MakeWords, MendWords, PrimaryWords,
+    RenewWords, Task,
 };
 use ft_types::{KEEPER_LIMIT, Keeper, Quorum, Term, read_number};
 use std::alloc::Global;
