@@ -176,7 +176,7 @@ fn renewing_of<'a>(words: Words<'a>) -> Result<Task<'a>, WordsFault>
         words,
         mut rows,
     } = words;
-    let [image, number, log, granted] = *words.as_slice() else {
+    let [image, number, made, granted] = *words.as_slice() else {
         return Err(WordsFault::Usage);
     };
     let keeper = keeper(number)?;
@@ -185,7 +185,7 @@ fn renewing_of<'a>(words: Words<'a>) -> Result<Task<'a>, WordsFault>
     Ok(Task::Renew(RenewWords {
         image,
         keeper,
-        log,
+        log: made,
         term,
         handed,
     }))

@@ -143,13 +143,20 @@ fn plan_for(alloc: Global, guest: Guest, log: &[u8], others: &[Vec<u8>]) -> Resu
     })
 }
 
+/// Adds bytes to the log, and brings them to disk.
+fn add_synced<F: KeeperFiles>(files: &mut F, bytes: &[u8]) -> Result<(), FilesFault>
+    ensures { OnOk result (Does (F.acts files.old) (F.acts files.new) (Added bytes.now ∷ Synced ∷ [])) }
+{
+    files.add(bytes)?;
+    files.sync()
+}
+
 /// Does it.
 fn carry_out<F: KeeperFiles>(files: &mut F, plan: &Plan) -> Result<(), FilesFault>
     ensures { OnOk result (Does (F.acts files.old) (F.acts files.new) (CutTo plan.now.size ∷ Added plan.now.fresh.items ∷ Synced ∷ [])) }
 {
     files.cut(plan.size)?;
-    files.add(&plan.fresh)?;
-    files.sync()
+    add_synced(files, &plan.fresh)
 }
 
 /// Mends a log of the guest: it is cut behind its frames, and those that it lacks are added from the fronts of other keepers' logs. It stays as it is where a
@@ -195,8 +202,7 @@ pub fn renew<F: KeeperFiles>(
         Does (F.acts files.old) (F.acts files.new) (Added bytes ∷ Synced ∷ Fenced term ∷ [])) }
 {
     let bytes = gather_all(alloc, guest, others)?;
-    files.add(&bytes)?;
-    files.sync()?;
+    add_synced(files, &bytes)?;
     files.add_fence(term)?;
     Ok(())
 }
