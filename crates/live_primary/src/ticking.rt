@@ -1,7 +1,7 @@
 //! A thread that says to a primary how time goes by, and tells what that finds of keepers.
 
 use attendance::Finding;
-use ends::{Door, Event, Gone, Host, Note, Taker, bring, note};
+use ends::{Door, Event, Gone, Host, Note, Taker, bring, tell_note};
 use ft_types::Memory;
 use primary_turns::Said;
 use std::alloc::{AllocError, Global};
@@ -70,7 +70,7 @@ fn note_of(finding: Finding) -> Option<Note> {
 fn note_all<H: Host>(rt: &H, findings: &Findings) -> Result<(), Memory> {
     for finding in findings.take(rt)? {
         if let Some(what) = note_of(finding) {
-            note(rt, &what);
+            tell_note(rt, &what);
         }
     }
     Ok(())
