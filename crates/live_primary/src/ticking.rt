@@ -10,7 +10,7 @@ use std::thread;
 use std::time::Duration;
 
 /// How many milliseconds lie between two ticks.
-const TICK: u64 = 500;
+const INTERVAL: u64 = 500;
 
 /// How many findings wait at the most until they are told; others are left out.
 const ROOM: usize = 64;
@@ -91,7 +91,7 @@ fn tick<H: Host, T: Taker<H>>(
     findings: &Findings,
 ) -> Result<(), Gone> {
     for _ in rt.forever() {
-        let _slept = thread::sleep(rt, Duration::from_millis(TICK));
+        let _slept = thread::sleep(rt, Duration::from_millis(INTERVAL));
         bring_tick(rt, to)?;
         let _noted = note_all(rt, findings);
     }
