@@ -166,7 +166,7 @@ words 30 | awk '{ print "0 word", $1, NR - 1 }' > requests
 : > frames
 "$live" make "$image" 0 1 1 "$pair" first
 "$live" hand "$image" 0 first 1 > handed
-"$live" primary "$image" 1 1 1 in requests out answers to frames from none with handed
+"$live" primary "$image" 1 1 1 in requests out answers to frames from none with handed 2>> faults
 at=$((40 + $(od -An -tu4 -j4 -N4 frames)))
 size=$((40 + $(od -An -tu4 -j$((at + 4)) -N4 frames)))
 head -c "$at" frames > frame.0

@@ -60,10 +60,10 @@ impl Attendance {
 
     /// How many are heard and not fenced off.
     fn there(&self) -> u8 {
-        let mut there = 0;
+        let mut there = 0u8;
         for number in 0..self.quorum.keepers() {
             if self.entries[Keeper::new(number).index()].is_there() {
-                there += 1;
+                there = there.saturating_add(1);
             }
         }
         there

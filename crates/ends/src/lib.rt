@@ -19,5 +19,5 @@ pub use faults::{Fault, Frames, FramesFault, NamedFile, file_fault, name_at, ref
 pub use files::{RemovedFile, is_fifo, read_file, remove_file, sync_folder};
 pub use host::{Host, Paths};
 pub use listening::{Listening, Relief, listen_all};
-pub use notes::{Note, note};
+pub use notes::{Note, tell_note};
 pub use posting::{Post, Writer, begin_posts, leave_all};

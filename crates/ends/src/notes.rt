@@ -44,6 +44,6 @@ impl Display for Note {
 }
 
 /// Notes something on standard error. Where that can't be written the process goes on all the same.
-pub fn note<R: Eprint>(rt: &R, what: &Note) {
+pub fn tell_note<R: Eprint>(rt: &R, what: &Note) {
     let _written = eprintln!(rt; "note {what}");
 }

@@ -9,7 +9,7 @@ use client_turns::{Client, ClientCame, ClientDeed, ClientEnd};
 use crossbeam_channel::RecvTimeoutError;
 use ends::{
     Door, Event, Fault, Host, Keeps, Listening, NamedFile, Note, Post, Reads, Receiver, Waiting,
-    Writer, begin_posts, file_fault, leave_all, listen_all, note, read_file, row, tell,
+    Writer, begin_posts, file_fault, leave_all, listen_all, read_file, row, tell, tell_note,
 };
 use ft_types::Memory;
 use live_words::ClientWords;
@@ -64,7 +64,7 @@ impl LongWait {
     /// An answer is printed, which came at this time.
     fn end<H: Host>(&mut self, rt: &H, told: &Told, since: Instant) {
         if self.is_noted {
-            note(rt, &Note::Answered(told.number));
+            tell_note(rt, &Note::Answered(told.number));
         }
         self.since = since;
         self.number = told.number.saturating_add(1);
@@ -81,7 +81,7 @@ impl LongWait {
         if waited < long {
             return Some(long.saturating_sub(waited));
         }
-        note(rt, &Note::Unanswered(self.number));
+        tell_note(rt, &Note::Unanswered(self.number));
         self.is_noted = true;
         None
     }

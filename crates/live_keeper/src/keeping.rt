@@ -10,7 +10,7 @@ use crate::listening::listen_all;
 use crate::names::name_in_keeper;
 use crate::posting::{Post, begin_posts, posts};
 use crate::turns::Keeping;
-use ends::{Door, Fault, Host, Note, Paths, note, row, tell};
+use ends::{Door, Fault, Host, Note, Paths, row, tell, tell_note};
 use ft_types::{Guest, Keeper};
 use keeper_files::open_for_keeper;
 use live_primary::read_image_file;
@@ -141,7 +141,7 @@ fn keep_all<H: Host>(rt: &H, words: &KeeperWords<'_>) -> Result<u8, Fault>
     let guest = read_image_file(rt, words.image)?.guest();
     let mut files = open(rt, guest, words)?;
     let station = begin(rt, guest, words.keeper, &mut files)?;
-    note(rt, &Note::Keeps(words.keeper));
+    tell_note(rt, &Note::Keeps(words.keeper));
     let (to, events) = row(rt.alloc(), ROOM)?;
     let outputs = posts(rt.alloc(), guest, words.keeper, words.outputs.len())?;
     let desk = Arc::new(rt.alloc(), Desk::new(rt.alloc(), events, outputs)?)?;

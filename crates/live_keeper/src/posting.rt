@@ -115,7 +115,7 @@ impl Next {
     }
 
     /// How many milliseconds go by before all frames are asked for the next time.
-    fn pause(&self) -> u64 {
+    fn pause_now(&self) -> u64 {
         if self.deaf > 0 {
             self.pause
         } else {
@@ -126,7 +126,7 @@ impl Next {
     /// How many milliseconds may go by before the next look.
     fn time(&self) -> u64 {
         if self.lacks() {
-            self.pause().saturating_sub(self.waited).clamp(1, BEAT)
+            self.pause_now().saturating_sub(self.waited).clamp(1, BEAT)
         } else {
             BEAT
         }
@@ -139,7 +139,7 @@ impl Next {
             return;
         }
         self.waited = self.waited.saturating_add(time);
-        if self.waited >= self.pause() {
+        if self.waited >= self.pause_now() {
             self.ask();
         }
     }

@@ -7,7 +7,7 @@ use crate::names::name_in;
 use crate::office::Office;
 use crate::outset::{Outset, set_out};
 use crate::ticking::begin_ticks;
-use ends::{Door, Event, Fault, Host, Note, Pen, Receiver, note, refuse, row};
+use ends::{Door, Event, Fault, Host, Note, Pen, Receiver, refuse, row, tell_note};
 use ft_types::Memory;
 use live_words::PrimaryWords;
 use primary_turns::{Deed, Leadership, Next, Said};
@@ -179,7 +179,7 @@ fn lead_all<H: Host>(rt: &H, words: &PrimaryWords<'_>) -> Result<(), Fault> {
         open: words.requests.len() + words.acknowledgements.len(),
         office,
     };
-    note(rt, &Note::Leads(words.term));
+    tell_note(rt, &Note::Leads(words.term));
     bridge.lead(rt, helm)?;
     for thread in threads {
         thread.join(rt);

@@ -1,7 +1,7 @@
 //! A thread that says to a primary how time goes by, and tells what that finds of keepers.
 
 use attendance::Finding;
-use ends::{Door, Event, Gone, Host, Note, Taker, bring, note};
+use ends::{Door, Event, Gone, Host, Note, Taker, bring, tell_note};
 use ft_types::Memory;
 use primary_turns::Said;
 use std::alloc::{AllocError, Global};
@@ -10,7 +10,7 @@ use std::thread;
 use std::time::Duration;
 
 /// How many milliseconds lie between two ticks.
-const TICK: u64 = 500;
+const INTERVAL: u64 = 500;
 
 /// How many findings wait at the most until they are told; others are left out.
 const ROOM: usize = 64;
@@ -70,7 +70,7 @@ fn note_of(finding: Finding) -> Option<Note> {
 fn note_all<H: Host>(rt: &H, findings: &Findings) -> Result<(), Memory> {
     for finding in findings.take(rt)? {
         if let Some(what) = note_of(finding) {
-            note(rt, &what);
+            tell_note(rt, &what);
         }
     }
     Ok(())
@@ -91,7 +91,7 @@ fn tick<H: Host, T: Taker<H>>(
     findings: &Findings,
 ) -> Result<(), Gone> {
     for _ in rt.forever() {
-        let _slept = thread::sleep(rt, Duration::from_millis(TICK));
+        let _slept = thread::sleep(rt, Duration::from_millis(INTERVAL));
         bring_tick(rt, to)?;
         let _noted = note_all(rt, findings);
     }
