@@ -1,7 +1,7 @@
 #!/bin/bash
-# faults.sh [LIVE [WORKBENCH]]: each fault line that docs/FORMATS.md has for `live`, provoked by a row, with its status. At the end it compares the lines that came with those that
-# stand there: none is without a row, and none comes that does not stand there. What is done about such lines is in amiss.sh, keeper.sh and mend.sh. LIVE and WORKBENCH are
-# the built programs, by themselves those that `rt run` leaves. In some three seconds; the last line is 'N passed, N failed'. Needs bash, mkfifo, sha256sum and cc.
+# faults.sh [LIVE [WORKBENCH]]: each fault line that docs/FORMATS.md has for `live`, provoked by a row, with its status. At the end it compares the lines that came with those
+# that stand there: none is without a row, and none comes that does not stand there. What is done about such lines is in amiss.sh, keeper.sh and mend.sh. LIVE and WORKBENCH
+# are the built programs, by themselves those that `rt run` leaves. In some ten seconds; the last line is 'N passed, N failed'. Needs bash, mkfifo, sha256sum and cc.
 . "$(dirname "$0")/common.sh"
 image=$top/guests/images/service.image
 other=$top/samples/hand_over.image

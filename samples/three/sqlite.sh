@@ -1,9 +1,10 @@
 #!/bin/bash
-# sqlite.sh [LIVE [IMAGE [ROUNDS]]]: SQLite as a service on three machines, a door to it on a fourth, and a user on a fifth who has socat alone, each a namespace of the network,
-# led by three.sh. The machine that leads loses its power, and the next one answers: ten commands in all. Then connections: one behind the other, some at once, cut within a
-# line or behind it, with lines that are too long. Then ROUNDS times, 6 by itself, while lines are under way, the door's machine loses its power, the door is ended, or a
-# connection of it is killed: no line that was answered is lost, and none is done twice. At last a door whose file of words is older than what was asked. It prints how long things took. LIVE is the
-# built program, by itself the one that `.ci/run` leaves, IMAGE the one that guests/foreign.mk makes. The last line is 'N passed, N failed'. Needs what power.sh and door.sh need.
+# sqlite.sh [LIVE [IMAGE [ROUNDS]]]: SQLite as a service on three machines, a door to it on a fourth, and a user on a fifth who has socat alone, each a namespace of the
+# network, led by three.sh. The machine that leads loses its power, and the next one answers: ten commands in all. Then connections: one behind the other, some at once, cut
+# within a line or behind it, with lines that are too long. Then ROUNDS times, 6 by itself, while lines are under way, the door's machine loses its power, the door is ended,
+# or a connection of it is killed: no line that was answered is lost, and none is done twice. At last a door whose file of words is older than what was asked. It prints how
+# long things took. LIVE is the built program, by itself the one that `.ci/run` leaves, IMAGE the one that guests/foreign.mk makes. The last line is 'N passed, N failed'.
+# Needs what power.sh and door.sh need.
 set -u
 . "$(dirname "$0")/machines.sh"
 image=$(realpath "${2:-$top/guests/out/-O2/sqlite.image}")
