@@ -314,6 +314,7 @@ elif [ -x "$live" ] && command -v bash > /dev/null; then
     drills 'what goes amiss between processes' amiss.sh
     drills 'each fault line' faults.sh
     drills 'what is told of logs, and how they are mended' mend.sh
+    drills 'disks that are lost, and new logs' renew.sh 3
     if ! command -v cc > /dev/null; then
         echo "left out samples/live/power.sh, since no C compiler is installed"
     elif bash "$top/samples/live/power.sh" "$live" 2 > "$work/drills" 2>&1; then
