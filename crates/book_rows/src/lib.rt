@@ -41,8 +41,6 @@ mod rows;
 #[cfg(test)]
 mod runs;
 #[cfg(test)]
-mod sessions;
-#[cfg(test)]
 mod starts;
 #[cfg(test)]
 mod terms;

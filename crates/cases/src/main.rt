@@ -5,7 +5,6 @@
 mod cases;
 mod files;
 mod frames;
-mod packets;
 mod reading;
 mod running;
 mod sweeps;

@@ -29,8 +29,6 @@ mod names;
 #[cfg(test)]
 mod notes;
 #[cfg(test)]
-mod packets;
-#[cfg(test)]
 mod queues;
 #[cfg(test)]
 mod races;

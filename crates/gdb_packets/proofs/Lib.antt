@@ -1,3 +1,0 @@
-pub mod Feeds
-pub mod Escapes
-pub mod Cuts

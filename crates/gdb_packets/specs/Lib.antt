@@ -1,3 +1,0 @@
-pub mod Packets
-pub mod Streams
-pub mod machinery

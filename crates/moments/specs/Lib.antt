@@ -1,6 +1,0 @@
-pub mod Line
-pub mod Points
-pub mod Stops
-pub mod Laws
-pub mod Cuts
-pub mod machinery

@@ -1,6 +1,0 @@
-pub mod Parts
-pub mod Machines
-pub mod Kept
-pub mod Choices
-pub mod Pending
-pub mod Raising
