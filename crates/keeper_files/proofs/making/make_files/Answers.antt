@@ -1,11 +1,10 @@
 use Rattle.std.proofs.Common.{[], ◌∷◌, ◌++◌, true, false}
-use Rattle.std.proofs.lemmas.Result.{IfOk-weaker}
+use Rattle.std.proofs.lemmas.Result.{IfOk-weaker, err_from_is_err_and}
 use Rattle.stations.specs.Acts.{Does}
 use Rattle.stations.proofs.Does.{does_then}
 use Rattle.keeper_files.specs.Deeds.{SawThere, SawMark, Made, SawOwn, SawFences, making, naming}
 use Rattle.keeper_files.specs.Owners.{keeps_of}
 use Rattle.keeper_files.specs.declared.disk.Part.TheVariants.{Log, Fences}
-use Rattle.keeper_files.proofs.Results.{err_all}
 use Rattle.keeper_files.proofs.making.make_files.Goals as goal
 
 pub returns-in_err-log-clause-there : goal.returns-in_err-log-clause-there
@@ -14,7 +13,8 @@ returns-in_err-log-clause-there g c =
     let one = g.D.Disk.deeds c.look.new.disk in
     let new = g.D.Disk.deeds c.make_both.new.disk in
     let none = SawThere Log false ∷ SawThere Fences false ∷ SawMark false ∷ [] in
-    err_all c.from_residual-in_err-log.result _ (λ f same. (
+    let p = err_from_is_err_and c.from_residual-in_err-log.result c.from_residual-in_err-log.ensures.1 in
+    rw (p.1, p.2) (λ same. (
       none ++ Made Log false ∷ [],
       (tt, (tt, (tt, (tt, tt)))),
       does_then old one new none (Made Log false ∷ []) c.in_ok-look.ensures.none (c.in_err-log.ensures.there same),
