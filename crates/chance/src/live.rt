@@ -100,7 +100,11 @@ fn outcome_of_fault(fault: EventFault) -> Result<Outcome, Memory> {
     if is_want(fault) {
         return Err(Memory);
     }
-    if lacks_stores(fault) { Ok(Outcome::TooFewStores) } else { Ok(Outcome::Refused) }
+    if lacks_stores(fault) {
+        Ok(Outcome::TooFewStores)
+    } else {
+        Ok(Outcome::Refused)
+    }
 }
 
 /// What comes of a grant that is answered so.
@@ -136,7 +140,11 @@ impl Live {
         match self.world.apply(alloc, event) {
             Ok(()) => Ok(true),
             Err(fault) => {
-                if is_want(fault) { Err(Memory) } else { Ok(false) }
+                if is_want(fault) {
+                    Err(Memory)
+                } else {
+                    Ok(false)
+                }
             }
         }
     }
