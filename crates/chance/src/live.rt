@@ -71,39 +71,27 @@ fn is_contradicted(one: &Answer, told: &[Answer]) -> bool {
     false
 }
 
-/// Whether memory was refused to what has the fault.
-fn is_want(fault: EventFault) -> bool {
+/// What comes of a grant whose primary does not go live for this.
+fn outcome_of_live(fault: LiveFault) -> Result<Outcome, Memory> {
+    if fault == LiveFault::Memory || fault == LiveFault::Replay(ReplayFault::Memory) {
+        return Err(Memory);
+    }
+    if fault == LiveFault::TooFewStores {
+        Ok(Outcome::TooFewStores)
+    } else {
+        Ok(Outcome::Refused)
+    }
+}
+
+/// What comes of an event that is refused so; of one to which memory was refused nothing does.
+fn outcome_of_fault(fault: EventFault) -> Result<Outcome, Memory> {
     match fault {
         EventFault::Memory
         | EventFault::Files(FilesFault::Memory)
         | EventFault::Log(LogFault::Files(FilesFault::Memory))
-        | EventFault::Handed(HandedFault::Memory) => true,
-        EventFault::Lead(LeadFault::NotLive(GivenFault::Live(fault))) => {
-            fault == LiveFault::Memory || fault == LiveFault::Replay(ReplayFault::Memory)
-        }
-        _ => false,
-    }
-}
-
-/// Whether the grant had stores of too few keepers.
-fn lacks_stores(fault: EventFault) -> bool {
-    match fault {
-        EventFault::Lead(LeadFault::NotLive(GivenFault::Live(fault))) => {
-            fault == LiveFault::TooFewStores
-        }
-        _ => false,
-    }
-}
-
-/// What comes of a grant that is refused so.
-fn outcome_of_fault(fault: EventFault) -> Result<Outcome, Memory> {
-    if is_want(fault) {
-        return Err(Memory);
-    }
-    if lacks_stores(fault) {
-        Ok(Outcome::TooFewStores)
-    } else {
-        Ok(Outcome::Refused)
+        | EventFault::Handed(HandedFault::Memory) => Err(Memory),
+        EventFault::Lead(LeadFault::NotLive(GivenFault::Live(fault))) => outcome_of_live(fault),
+        _ => Ok(Outcome::Refused),
     }
 }
 
@@ -140,11 +128,8 @@ impl Live {
         match self.world.apply(alloc, event) {
             Ok(()) => Ok(true),
             Err(fault) => {
-                if is_want(fault) {
-                    Err(Memory)
-                } else {
-                    Ok(false)
-                }
+                let _outcome = outcome_of_fault(fault)?;
+                Ok(false)
             }
         }
     }
