@@ -80,6 +80,11 @@ def stream(version, image, lines):
     return data
 
 
+def packets(lines):
+    """What the lines say, a packet each: `+` and `-` stand for themselves."""
+    return b"".join(line.encode() if line in ("+", "-") else b"$%s#%02x" % (line.encode(), sum(line.encode()) % 256) for line in lines)
+
+
 def blocks(text):
     """The headings of a case file, each with the lines of its content."""
     found = []
@@ -132,8 +137,9 @@ def cases_of(path, version=1):
     texts, found, last = {}, [], None
     for heading, content in blocks(text):
         verb, _, rest = heading.partition(" ")
-        if heading.startswith("makes frames "):
-            verb, rest = "makes frames", heading.removeprefix("makes frames ")
+        for two in ("makes frames", "makes packets"):
+            if heading.startswith(two + " "):
+                verb, rest = two, heading.removeprefix(two + " ")
         name, given = rest, joined(content)
         if verb in ("file", "makes", "out", "err") and "= " in rest:
             name, _, source = rest.partition("= ")
@@ -176,6 +182,10 @@ def cases_of(path, version=1):
             case.out += given
         elif verb == "err":
             case.err += given
+        elif verb == "packets":
+            case.files[rest] = packets(content)
+        elif verb == "makes packets":
+            case.out, case.on_disk = packets(content), False
         elif verb in ("failing", "room", "holds", "each"):
             case.on_disk = False
         elif verb not in ("absent", "unread"):

@@ -78,6 +78,8 @@ lacks() {
         echo "it installs packages"
     elif grep -q 'make -' "$1" && ! grep -q 'make .*install' "$1" && [ "$(riscv64-unknown-elf-gcc -dumpfullversion 2> /dev/null)" != 12.2.0 ]; then
         echo "riscv64-unknown-elf-gcc 12.2.0 is not installed"
+    elif grep -q 'gdb-multiarch' "$1" && ! command -v gdb-multiarch > /dev/null; then
+        echo "no gdb-multiarch is installed"
     elif grep -q 'broker' "$1" && ! command -v redis-server > /dev/null; then
         echo "no redis-server is installed"
     elif grep -q 'python3' "$1" && ! command -v python3 > /dev/null; then
@@ -229,6 +231,22 @@ elif sh "$top/benches/programs/measure.sh" "$program" "$([ -n "${TRIED:-}" ] && 
     pass
 else
     fail "guests whose instructions fall by chance" < "$work/differ"
+fi
+
+# A hundred sessions of a debugger by chance, ten by a program of `rt try`, and gdb over logs, backwards.
+if ! command -v python3 > /dev/null || [ ! -d /dev/shm ]; then
+    echo "left out benches/debugging, since python3 or /dev/shm is not there"
+elif sh "$top/benches/debugging/measure.sh" "$program" "$([ -n "${TRIED:-}" ] && echo 10 || echo 100)" > "$work/differ" 2>&1; then
+    pass
+else
+    fail "sessions of a debugger by chance" < "$work/differ"
+fi
+if ! command -v gdb-multiarch > /dev/null || ! command -v bash > /dev/null; then
+    echo "left out samples/debug.sh, since no gdb-multiarch or bash is installed"
+elif bash "$top/samples/debug.sh" "$program" "$live" > "$work/looked" 2>&1; then
+    pass
+else
+    fail "gdb over logs" < "$work/looked"
 fi
 
 # Three keepers over FIFOs: one is killed and begins again, two hand their logs over behind a fence, in some twenty seconds. Then primaries and clients

@@ -1,7 +1,7 @@
 #!/bin/bash
 # pair.sh [LIVE [GUEST]]: three keepers, a primary and a client, each a process of its own, over FIFOs. The primary is killed, the next one goes live from what two
 # keepers hand over, and goes on. LIVE is the built program, by itself the one that `rt run` leaves; where there is none, it is built first, without a proof. GUEST is
-# `service`, which is asked words, `lua` or `sqlite` (guests/README.md), which are asked lines. IMAGE is another image of the guest, and LOGS a folder to which the
+# `service`, which is asked words, `lua` or `sqlite` (guests/README.md), which are asked lines, or `race`. IMAGE is another image of the guest, and LOGS a folder to which the
 # keepers' logs are copied at the end. Needs bash, GNU od and mkfifo.
 set -eu
 top=$(cd "$(dirname "$0")/../.." && pwd)
@@ -11,6 +11,7 @@ guest=${2:-service}
 image=$top/guests/images/$guest.image
 case $guest in
     lua | sqlite) image=$top/guests/out/-O2/$guest.image ;;
+    race) image=$top/samples/race.image ;;
 esac
 image=${IMAGE:-$image}
 logs=$(cd "${LOGS:-.}" && pwd)
@@ -73,6 +74,7 @@ case $guest in
     lua | sqlite) asks=ask_lines ;;
 esac
 case $guest in
+    race) first=(00000064 000003e8) second=(00000007) ;;
     service) first=(01070011 01070012 01080012 03070012) second=(02070011 01070012 01280011 00080011) ;;
     sqlite)
         first=('create table stock(part text primary key, many int);' "insert into stock values('bolts', 7), ('nuts', 12);" 'select * from stock;')

@@ -41,6 +41,8 @@ mod rows;
 #[cfg(test)]
 mod runs;
 #[cfg(test)]
+mod sessions;
+#[cfg(test)]
 mod starts;
 #[cfg(test)]
 mod terms;

@@ -2,6 +2,7 @@
 
 use crate::files::{Change, File};
 use crate::frames::{bytes_of_hex, stream_of, turn};
+use crate::packets::packets_of;
 use crate::reading::{Block, Line, LineNumber, Words, blocks_of};
 use crate::sweeps::Sweep;
 use std::alloc::Global;
@@ -151,6 +152,22 @@ impl<'t> Case<'t> {
         self.out.get(..self.room).unwrap_or(&self.out)
     }
 
+    /// Takes packets: the file that is made, or one that can be read.
+    fn take_packets(
+        &mut self,
+        alloc: Global,
+        verb: &str,
+        name: &'t str,
+        content: &[Line<'t>],
+    ) -> Option<()> {
+        let packets = packets_of(alloc, content)?;
+        if verb == "packets" {
+            return self.files.push(File::new(name, packets)).ok();
+        }
+        self.make(name, Some(packets));
+        Some(())
+    }
+
     /// Takes a stream of frames: the file that is made, or one that can be read.
     fn take_frames(
         &mut self,
@@ -219,6 +236,7 @@ impl<'t> Case<'t> {
             "frames" | "makes frames" => {
                 return self.take_frames(alloc, texts, verb, rest, block);
             }
+            "packets" | "makes packets" => self.take_packets(alloc, verb, rest, &block.content),
             "file" | "makes" | "out" | "err" => {
                 self.take_bytes(alloc, texts, verb, rest, &block.content)
             }
@@ -226,6 +244,16 @@ impl<'t> Case<'t> {
         };
         taken.ok_or(block.heading.number)
     }
+}
+
+/// What a heading asks for, and the rest of it.
+fn parted(heading: &str) -> (&str, &str) {
+    for verb in ["makes frames", "makes packets"] {
+        if let Some(rest) = heading.strip_prefix(verb) {
+            return (verb, rest.trim_start());
+        }
+    }
+    heading.split_once(' ').unwrap_or((heading, ""))
 }
 
 /// The named texts and the cases so far.
@@ -258,10 +286,7 @@ impl<'t> Told<'t> {
     /// Takes a block: a text, a case, or something of the last case.
     fn take(&mut self, alloc: Global, block: &Block<'t>) -> Result<(), LineNumber> {
         let Line { number, text } = block.heading;
-        let (verb, rest) = match text.strip_prefix("makes frames ") {
-            Some(rest) => ("makes frames", rest),
-            None => text.split_once(' ').unwrap_or((text, "")),
-        };
+        let (verb, rest) = parted(text);
         match verb {
             "text" | "bytes" | "case" => {
                 self.begin(alloc, verb, rest, &block.content).ok_or(number)

@@ -128,10 +128,36 @@ pub struct MemoryFiles<'c> {
     pub sink: &'c RefCell<MemorySink>,
 }
 
+impl<'c> MemoryFiles<'c> {
+    /// A writer into what can be looked at.
+    fn shared(&self) -> SharedSink<'c> {
+        SharedSink {
+            sink: self.sink,
+            failures: 0,
+        }
+    }
+
+    /// What comes on standard input: the file of that name, or nothing.
+    fn asked(&self) -> MemorySource {
+        for file in &self.case.files {
+            if file.name == "input" {
+                if let Ok(source) = file.source() {
+                    return source;
+                }
+            }
+        }
+        MemorySource::new(Vec::new(*self.case.files.allocator()))
+    }
+}
+
 impl<'c> Files for MemoryFiles<'c> {
     type Reader = WatchedSource<'c>;
 
     type Writer = SharedSink<'c>;
+
+    type Input = MemorySource;
+
+    type Output = SharedSink<'c>;
 
     fn reader(&mut self, name: &str) -> Result<WatchedSource<'c>, Failed> {
         for file in &self.case.files {
@@ -149,9 +175,14 @@ impl<'c> Files for MemoryFiles<'c> {
         if self.case.made != name {
             return Err(Failed);
         }
-        Ok(SharedSink {
-            sink: self.sink,
-            failures: 0,
-        })
+        Ok(self.shared())
+    }
+
+    fn input(&mut self) -> MemorySource {
+        self.asked()
+    }
+
+    fn output(&mut self) -> SharedSink<'c> {
+        self.shared()
     }
 }

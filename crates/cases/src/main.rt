@@ -5,6 +5,7 @@
 mod cases;
 mod files;
 mod frames;
+mod packets;
 mod reading;
 mod running;
 mod sweeps;

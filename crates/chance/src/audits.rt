@@ -43,7 +43,7 @@ static TWO_SHARED_PAGES: Rounds = Rounds {
     ],
 };
 
-fn guest_by(alloc: Global, harts: u8, dice: &mut Dice) -> Result<Image, Memory> {
+pub(crate) fn guest_by(alloc: Global, harts: u8, dice: &mut Dice) -> Result<Image, Memory> {
     image_in(alloc, &TWO_SHARED_PAGES.file(alloc, harts, dice)?)
 }
 
@@ -68,12 +68,16 @@ fn ran(alloc: Global, mut book: Book<Recording>, dice: &mut Dice) -> Book<Record
 }
 
 /// What a guest records from boot.
-fn recorded(alloc: Global, image: &Image, dice: &mut Dice) -> Result<Book<Recording>, Memory> {
+pub(crate) fn recorded(
+    alloc: Global,
+    image: &Image,
+    dice: &mut Dice,
+) -> Result<Book<Recording>, Memory> {
     Ok(ran(alloc, recorder_of(alloc, image, 60)?, dice))
 }
 
 /// What it records from this machine on.
-fn recorded_on(
+pub(crate) fn recorded_on(
     alloc: Global,
     machine: &Machine,
     dice: &mut Dice,
@@ -89,7 +93,7 @@ fn deliver_all(alloc: Global, store: &mut Store, frames: &[Frame]) -> Result<(),
 }
 
 /// Puts a term of the book's log, which goes on from the one before.
-fn put_log(
+pub(crate) fn put_log(
     alloc: Global,
     store: &mut Store,
     book: &Book<Recording>,
@@ -103,7 +107,7 @@ fn put_log(
 }
 
 /// The plan of the store.
-fn planned(alloc: Global, store: &Store) -> Result<Plan, Memory> {
+pub(crate) fn planned(alloc: Global, store: &Store) -> Result<Plan, Memory> {
     let reached = position(alloc, store)?;
     match plan(alloc, store, &reached) {
         Ok(plan) => Ok(plan),

@@ -26,6 +26,8 @@ mod granting;
 #[cfg(test)]
 mod keeper;
 #[cfg(test)]
+mod lines;
+#[cfg(test)]
 mod lists;
 #[cfg(test)]
 mod live;

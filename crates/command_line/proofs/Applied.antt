@@ -10,7 +10,7 @@ use Rattle.failover_world.specs.Worlds.{WorldView}
 use Rattle.failover_world.specs.Refusals.{Refuses, IsLeft}
 use Rattle.failover_world.specs.Happenings.{Happens}
 use Rattle.command_line.specs.declared.faults.CommandFault.{CommandFault}
-use Rattle.command_line.specs.declared.faults.CommandFault.TheVariants.{Usage, File, Image, Script, Events, World, Uncovered, Streams, Live as NotLive, Memory}
+use Rattle.command_line.specs.declared.faults.CommandFault.TheVariants.{Usage, File, Image, Script, Events, World, Uncovered, Streams, NoStep, Input, Live as NotLive, Memory}
 use Rattle.command_line.specs.Writing.{as_told, WritesSome}
 use Rattle.command_line.specs.FailingOver.{Begins, HappenAll, RefusesOne, KeepsPromises, FailsOver, Applies, fault_at, world_text, released_text}
 
@@ -68,4 +68,6 @@ module _ (image : ImageContents) (keepers need : ℕ) (events : List Event) (sta
   refused_told (Events n) b a k t = absurd a
   refused_told (Uncovered page one other) b a k t = absurd a
   refused_told (Streams x) b a k t = absurd a
+  refused_told (NoStep place) b a k t = absurd a
+  refused_told Input b a k t = absurd a
   refused_told (NotLive n) b a k t = absurd a

@@ -20,7 +20,7 @@ use Rattle.log_streams.specs.Outcome.{ArePlannedTo}
 use Rattle.log_streams.specs.Writing.{WritesOne}
 use Rattle.log_streams.proofs.Lifted.{streams_to}
 use Rattle.command_line.specs.declared.faults.CommandFault.{CommandFault}
-use Rattle.command_line.specs.declared.faults.CommandFault.TheVariants.{Usage, File, Image, Script, Events, World, Uncovered, Streams, Live, Memory}
+use Rattle.command_line.specs.declared.faults.CommandFault.TheVariants.{Usage, File, Image, Script, Events, World, Uncovered, Streams, NoStep, Input, Live, Memory}
 use Rattle.command_line.specs.Writing.{as_told}
 use Rattle.command_line.specs.Audits.{IsAuditFault, IsAuditCause, IsAuditCauseIn, SaysYes, audit_text, fault_of}
 
@@ -67,6 +67,8 @@ fault_cause image store (Image x) h = h
 fault_cause image store (Script n) h = h
 fault_cause image store (Events n) h = h
 fault_cause image store (World n x) h = h
+fault_cause image store (NoStep place) h = h
+fault_cause image store Input h = h
 fault_cause image store (Live n) h = h
 
 -- ---- of streams
@@ -87,6 +89,8 @@ cause_of image streams store (Image x) j h = absurd h
 cause_of image streams store (Script n) j h = absurd h
 cause_of image streams store (Events n) j h = absurd h
 cause_of image streams store (World n x) j h = absurd h
+cause_of image streams store (NoStep place) j h = absurd h
+cause_of image streams store Input j h = absurd h
 cause_of image streams store (Live n) j h = absurd h
 
 -- and its fault is the streams'

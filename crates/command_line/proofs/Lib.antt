@@ -2,3 +2,4 @@ pub mod Coming
 pub mod Applied
 pub mod Audited
 pub mod Ending
+pub mod Placed

@@ -14,7 +14,7 @@ use Rattle.log_streams.specs.Stores.{numbers}
 use Rattle.word_forms.specs.declared.fault.WordsFault.{WordsFault}
 use Rattle.word_forms.specs.declared.fault.WordsFault.TheVariants.{Usage as NoWords, Memory as NoWordsMemory}
 use Rattle.command_line.specs.declared.faults.CommandFault.{CommandFault}
-use Rattle.command_line.specs.declared.faults.CommandFault.TheVariants.{Usage, File, Image, Script, Events, World, Uncovered, Streams, Live, Memory}
+use Rattle.command_line.specs.declared.faults.CommandFault.TheVariants.{Usage, File, Image, Script, Events, World, Uncovered, Streams, NoStep, Input, Live, Memory}
 
 -- of an image
 abbrev pub image_line : ImageFault → List ℕ
@@ -64,6 +64,8 @@ fault_line name (Events n) = line (codes "fault events line " ++ decimal n)
 fault_line name (World n fault) = line (codes "fault events line " ++ decimal n ++ codes " world " ++ decimal (world_fault_number fault))
 fault_line name (Uncovered page one other) = uncovered_line page one other
 fault_line name (Streams fault) = streams_line fault
+fault_line name (NoStep place) = line (codes "fault replay 4 hart " ++ decimal place.hart ++ codes " count " ++ decimal place.count)
+fault_line name Input = line (codes "fault input")
 fault_line name (Live n) = line (codes "fault live " ++ decimal n)
 fault_line name Memory = line (codes "fault memory")
 

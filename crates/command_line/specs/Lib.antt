@@ -1,4 +1,5 @@
 pub mod Writing
 pub mod FailingOver
 pub mod Audits
+pub mod LookingBack
 pub mod Faults

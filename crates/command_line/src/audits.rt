@@ -21,7 +21,7 @@ use log_streams::read_store;
 use std::alloc::Global;
 
 /// The plan of a store: it lacks nothing but memory.
-fn planned(alloc: Global, store: &Store) -> Result<Plan, CommandFault>
+pub fn planned(alloc: Global, store: &Store) -> Result<Plan, CommandFault>
     ensures guest { IfOk result (λ plan. plan.guest ≡ store.now.guest) }
     ensures planned { IfOk result (λ plan. ArePlannedTo store.now plan.legs) }
     ensures fault { IfErr result (λ fault. fault ≡ NoMemory) }

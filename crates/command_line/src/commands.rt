@@ -8,12 +8,15 @@ ghost use Rattle.command_line.specs.Faults.{words_line};
 ghost use Rattle.command_line.specs.Writing.{Ends, WritesSome};
 
 use crate::audits::audit_streams;
+use crate::debugger::debug_streams;
 use crate::failing_over::fail_over;
 use crate::faults::{CommandFault, named_in, status_of, write_fault, write_words_fault, written};
 use crate::files::Files;
 use crate::graphs::graph_streams;
-use crate::words::{NamedFile, Request, Task, asked_text, read_words};
-use ft_types::{Sink, Source, write_all};
+use crate::looking_back::replay_streams_at;
+use crate::tracing::trace_streams;
+use crate::words::{NamedFile, Place, Request, Task, asked_text, read_words};
+use ft_types::{Count, Sink, Source, write_all};
 use guest_image::{Image, read_image};
 use log_join::Store;
 use log_streams::{
@@ -215,6 +218,46 @@ fn graph_logs<F: Files, P: Replays, W: Sink>(
     graph_streams(alloc, image, &mut readers, replays, out)
 }
 
+/// Writes the text of the machine to which the logs lead at a place.
+fn replay_logs_at<F: Files, W: Sink>(
+    alloc: Global,
+    image: &Image,
+    names: &[&str],
+    place: Place,
+    files: &mut F,
+    out: &mut W,
+) -> Result<(), CommandFault> {
+    let mut readers = open_logs(alloc, names, files)?;
+    replay_streams_at(alloc, image, &mut readers, place, out)
+}
+
+/// Writes a line for each of these steps of a hart.
+fn trace_logs<F: Files, W: Sink>(
+    alloc: Global,
+    image: &Image,
+    names: &[&str],
+    from: Place,
+    to: Count,
+    files: &mut F,
+    out: &mut W,
+) -> Result<(), CommandFault> {
+    let mut readers = open_logs(alloc, names, files)?;
+    trace_streams(alloc, image, &mut readers, from, to, out)
+}
+
+/// Answers a debugger that looks at the logs.
+fn debug_logs<F: Files>(
+    alloc: Global,
+    image: &Image,
+    names: &[&str],
+    files: &mut F,
+) -> Result<(), CommandFault> {
+    let mut readers = open_logs(alloc, names, files)?;
+    let mut input = files.input();
+    let mut output = files.output();
+    debug_streams(alloc, image, &mut readers, &mut input, &mut output)
+}
+
 /// Runs a primary with what the request's script offers.
 fn run_script<F: Files, P: Runs>(
     alloc: Global,
@@ -335,6 +378,9 @@ fn run_task<F: Files, P: Pairs, W: Sink>(
             ..
         } => pair_script(alloc, image, orders, *is_warm, request, files, pairs, out),
         Task::FailOver { quorum, .. } => apply_events(alloc, image, *quorum, request, files, out),
+        Task::ReplayAt { place, logs } => replay_logs_at(alloc, image, logs, *place, files, out),
+        Task::Trace { from, to, logs } => trace_logs(alloc, image, logs, *from, *to, files, out),
+        Task::Debug(logs) => debug_logs(alloc, image, logs, files),
     }
 }
 

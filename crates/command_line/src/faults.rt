@@ -7,7 +7,7 @@ ghost use Rattle.command_line.specs.Writing.{as_told};
 ghost use Rattle.command_line.specs.Audits.{replay_fault};
 ghost use Rattle.command_line.specs.Faults.{image_line, in_one_line, replay_line, shown, streams_line, step_text, uncovered_line, fault_line, words_line};
 
-use crate::words::{NamedFile, Request};
+use crate::words::{NamedFile, Place, Request};
 use failover_world::WorldFault;
 use ft_types::{Count, Failed, Hart, LineBuffer, Memory, PageNo, Sink, write_all};
 use guest_image::ImageFault;
@@ -36,6 +36,10 @@ pub enum CommandFault {
     Uncovered(PageNo, (Hart, Count), (Hart, Count)),
     /// What is wrong with the logs, their replay or the output.
     Streams(StreamsFault),
+    /// The logs lead the hart to fewer steps.
+    NoStep(Place),
+    /// Standard input could not be read.
+    Input,
     /// No primary goes live at the end of a pair with a warm keeper, by the number of that fault.
     Live(u8),
     /// A growth was refused.
@@ -102,7 +106,7 @@ impl From<WarmFault> for CommandFault {
 }
 
 /// The fault of a command for that of a replay.
-fn replayed(fault: ReplayFault) -> CommandFault
+pub fn replayed(fault: ReplayFault) -> CommandFault
     ensures { result ≡ replay_fault fault }
 {
     match fault {
@@ -293,6 +297,11 @@ pub fn write_fault<W: Sink>(fault: &CommandFault, name: &str, out: &mut W) -> Re
         }
         CommandFault::Uncovered(page, one, other) => write_uncovered(*page, *one, *other, out),
         CommandFault::Streams(fault) => write_streams_fault(*fault, out),
+        CommandFault::NoStep(place) => {
+            let hart = u64::from(place.hart.number());
+            write_two(b"fault replay 4 hart ", hart, b" count ", place.count, out)
+        }
+        CommandFault::Input => write_all(out, b"fault input\n"),
         CommandFault::Live(fault) => {
             write_numbered(b"fault live ", u64::from(*fault), b"\n", out)
         }

@@ -1,6 +1,6 @@
 //! What the words of the command line ask for.
 
-use ft_types::{COUNT_LIMIT, read_number};
+use ft_types::{COUNT_LIMIT, Count, HART_LIMIT, Hart, read_number};
 use log_streams::{Budget, PairOrders, Quorum};
 use std::alloc::Global;
 use word_forms::{Form, Program, Words, WordsFault, read_form, read_text};
@@ -18,6 +18,19 @@ pub struct Request<'a> {
 pub enum Task<'a> {
     /// Replay these logs.
     Replay(Vec<&'a str>),
+    /// Replay these logs, as far as so many steps of a hart stand on.
+    ReplayAt {
+        place: Place,
+        logs: Vec<&'a str>,
+    },
+    /// Tell what steps of a hart do, from a place on and below a count.
+    Trace {
+        from: Place,
+        to: Count,
+        logs: Vec<&'a str>,
+    },
+    /// Answer a debugger that looks at these logs.
+    Debug(Vec<&'a str>),
     /// Join these logs, and write what they hold to a file.
     Join {
         made: &'a str,
@@ -48,6 +61,13 @@ pub enum Task<'a> {
         events: &'a str,
         quorum: Quorum,
     },
+}
+
+/// So many steps of a hart.
+#[derive(Clone, Copy)]
+pub struct Place {
+    pub hart: Hart,
+    pub count: Count,
 }
 
 /// A file that a request names.
@@ -81,7 +101,8 @@ impl<'a> Task<'a> {
     fn log(&self, number: usize) -> &'a str {
         match self {
             Task::Replay(logs) | Task::Join { logs, .. } => name_at(logs, number),
-            Task::Cut(logs) | Task::Audit(logs) => name_at(logs, number),
+            Task::ReplayAt { logs, .. } | Task::Trace { logs, .. } => name_at(logs, number),
+            Task::Cut(logs) | Task::Audit(logs) | Task::Debug(logs) => name_at(logs, number),
             Task::Graph(logs) => name_at(logs, number),
             _ => "",
         }
@@ -118,12 +139,12 @@ fn name_at<'a>(names: &Vec<&'a str>, number: usize) -> &'a str {
     }
 }
 
-/// The forms of the words.
-static FORMS: [Form; 8] = [
+/// The forms of the words. Behind those of `pair` may stand `warm`, behind those of `replay` `at H N`; behind those of `trace` stand `H FROM TO`.
+static FORMS: [Form; 10] = [
     Form {
         name: "replay",
-        usage: "workbench replay IMAGE LOG..",
-        about: "prints the text of the machine at the position of the joined logs",
+        usage: "workbench replay IMAGE LOG.. [at H N]",
+        about: "prints the text of the machine at the position of the joined logs, or where hart H has N steps",
         words: &["image"],
         has_paths: true,
         behind: &[],
@@ -184,7 +205,35 @@ static FORMS: [Form; 8] = [
         has_paths: false,
         behind: &[],
     },
+    Form {
+        name: "trace",
+        usage: "workbench trace IMAGE LOG.. H FROM TO",
+        about: "prints a line for each step of hart H from FROM up to TO",
+        words: &["image"],
+        has_paths: true,
+        behind: &[],
+    },
+    Form {
+        name: "debug",
+        usage: "workbench debug IMAGE LOG..",
+        about: "answers gdb's remote protocol about the joined logs, on standard input and output",
+        words: &["image"],
+        has_paths: true,
+        behind: &[],
+    },
 ];
+
+/// What stands behind the words of a form.
+#[derive(Clone, Copy)]
+enum Tail {
+    Nothing,
+    /// `warm`
+    Warm,
+    /// `at H N`
+    At(Place),
+    /// `H FROM TO`
+    Steps(Place, Count),
+}
 
 fn number(word: &str) -> Result<u64, WordsFault> {
     match read_number(word.as_bytes()) {
@@ -198,6 +247,36 @@ fn budget_of(word: &str) -> Result<Budget, WordsFault> {
     match read_number(word.as_bytes()) {
         Some(steps) if steps > 0 && steps < COUNT_LIMIT => Ok(Budget::new(steps)),
         _ => Err(WordsFault::Usage),
+    }
+}
+
+/// The count that the word is.
+fn count_of(word: &str) -> Result<Count, WordsFault> {
+    match read_number(word.as_bytes()) {
+        Some(count) if count < COUNT_LIMIT => Ok(count),
+        _ => Err(WordsFault::Usage),
+    }
+}
+
+/// The place that these words are.
+fn place_of(hart: &str, count: &str) -> Result<Place, WordsFault> {
+    match read_number(hart.as_bytes()) {
+        Some(number) if number < u64::from(HART_LIMIT) => Ok(Place {
+            hart: Hart::new(number as u8),
+            count: count_of(count)?,
+        }),
+        _ => Err(WordsFault::Usage),
+    }
+}
+
+/// The steps that these words are: one at least.
+fn steps_of(hart: &str, from: &str, to: &str) -> Result<Tail, WordsFault> {
+    let place = place_of(hart, from)?;
+    let to = count_of(to)?;
+    if place.count < to {
+        Ok(Tail::Steps(place, to))
+    } else {
+        Err(WordsFault::Usage)
     }
 }
 
@@ -219,7 +298,7 @@ fn run<'a>(words: &[&'a str]) -> Result<Task<'a>, WordsFault> {
     })
 }
 
-fn pair<'a>(words: &[&'a str], is_warm: bool) -> Result<Task<'a>, WordsFault> {
+fn pair<'a>(words: &[&'a str], tail: Tail) -> Result<Task<'a>, WordsFault> {
     let [script, steps, keepers, need] = *words else {
         return Err(WordsFault::Usage);
     };
@@ -227,7 +306,7 @@ fn pair<'a>(words: &[&'a str], is_warm: bool) -> Result<Task<'a>, WordsFault> {
         Some(orders) => Ok(Task::Pair {
             script,
             orders,
-            is_warm,
+            is_warm: matches!(tail, Tail::Warm),
         }),
         None => Err(WordsFault::Usage),
     }
@@ -243,22 +322,38 @@ fn fail_over<'a>(words: &[&'a str]) -> Result<Task<'a>, WordsFault> {
     }
 }
 
+fn replay<'a>(logs: Vec<&'a str>, tail: Tail) -> Task<'a> {
+    match tail {
+        Tail::At(place) => Task::ReplayAt { place, logs },
+        _ => Task::Replay(logs),
+    }
+}
+
+fn trace<'a>(logs: Vec<&'a str>, tail: Tail) -> Result<Task<'a>, WordsFault> {
+    match tail {
+        Tail::Steps(from, to) => Ok(Task::Trace { from, to, logs }),
+        _ => Err(WordsFault::Usage),
+    }
+}
+
 /// What the words behind the image ask for, with these logs.
 fn task_of<'a>(
     command: &str,
     words: &[&'a str],
     logs: Vec<&'a str>,
-    is_warm: bool,
+    tail: Tail,
 ) -> Result<Task<'a>, WordsFault> {
     match command {
-        "replay" => Ok(Task::Replay(logs)),
+        "replay" => Ok(replay(logs, tail)),
         "join" => join(words, logs),
         "cut" => Ok(Task::Cut(logs)),
         "audit" => Ok(Task::Audit(logs)),
         "graph" => Ok(Task::Graph(logs)),
         "run" => run(words),
-        "pair" => pair(words, is_warm),
+        "pair" => pair(words, tail),
         "failover" => fail_over(words),
+        "trace" => trace(logs, tail),
+        "debug" => Ok(Task::Debug(logs)),
         _ => Err(WordsFault::Usage),
     }
 }
@@ -268,12 +363,12 @@ fn request_of<'a>(
     command: &str,
     words: &[&'a str],
     logs: Vec<&'a str>,
-    is_warm: bool,
+    tail: Tail,
 ) -> Result<Request<'a>, WordsFault> {
     let Some((image, rest)) = words.split_first() else {
         return Err(WordsFault::Usage);
     };
-    let task = task_of(command, rest, logs, is_warm)?;
+    let task = task_of(command, rest, logs, tail)?;
     Ok(Request {
         image: *image,
         task,
@@ -291,18 +386,44 @@ fn before_warm(words: &[String]) -> Option<&[String]> {
     }
 }
 
+/// The words before the last three, and these: nothing where that leaves no command, image and log.
+fn last_three(words: &[String]) -> Option<(&[String], [&str; 3])> {
+    let (third, before) = words.split_last()?;
+    let (second, before) = before.split_last()?;
+    let (first, before) = before.split_last()?;
+    if before.len() < 3 {
+        return None;
+    }
+    Some((before, [first.as_str(), second.as_str(), third.as_str()]))
+}
+
+/// The words of a form, and what stands behind them. A log whose name is `at` is no log where it is the third from the end, and one stands before it.
+fn parted<'a>(words: &'a [String]) -> Result<(&'a [String], Tail), WordsFault> {
+    if let Some(before) = before_warm(words) {
+        return Ok((before, Tail::Warm));
+    }
+    let (Some(command), Some((before, [first, second, third]))) = (words.first(), last_three(words))
+    else {
+        return Ok((words, Tail::Nothing));
+    };
+    match command.as_str() {
+        "trace" => Ok((before, steps_of(first, second, third)?)),
+        "replay" if first == "at" => Ok((before, Tail::At(place_of(second, third)?))),
+        _ => Ok((words, Tail::Nothing)),
+    }
+}
+
 /// The request that the words are. A word that begins with `-` is refused before they are parsed.
 pub fn read_words<'a>(alloc: Global, words: &'a [String]) -> Result<Request<'a>, WordsFault> {
-    let before = before_warm(words);
-    let is_warm = before.is_some();
+    let (before, tail) = parted(words)?;
     let Words {
         name,
         words,
         mut rows,
-    } = read_form(alloc, "workbench", &FORMS, before.unwrap_or(words))?;
+    } = read_form(alloc, "workbench", &FORMS, before)?;
     match rows.pop() {
-        Some(logs) => request_of(name, &words, logs, is_warm),
-        None => request_of(name, &words, Vec::new(alloc), is_warm),
+        Some(logs) => request_of(name, &words, logs, tail),
+        None => request_of(name, &words, Vec::new(alloc), tail),
     }
 }
 

@@ -29,6 +29,8 @@ mod names;
 #[cfg(test)]
 mod notes;
 #[cfg(test)]
+mod packets;
+#[cfg(test)]
 mod queues;
 #[cfg(test)]
 mod races;

@@ -5,18 +5,20 @@ ghost use Rattle.std.specs.Prelude.{None};
 use command_line::Files;
 use ft_types::{Failed, Sink, Source};
 use std::fs;
-use std::io::{Read, Write};
+use std::io::{Read, Stdin, Stdout, Write};
 
-/// The files that a runtime reaches.
+/// The files that a runtime reaches, and its standard streams.
 #[derive(Drop)]
 pub struct HostFiles<'a, H: fs::Files> {
     rt: &'a H,
+    input: Stdin,
+    output: Stdout,
 }
 
 impl<'a, H: fs::Files> HostFiles<'a, H> {
-    /// The files of this runtime.
-    pub fn new(rt: &'a H) -> HostFiles<'a, H> {
-        HostFiles { rt }
+    /// The files of this runtime, beside these streams.
+    pub fn new(rt: &'a H, input: Stdin, output: Stdout) -> HostFiles<'a, H> {
+        HostFiles { rt, input, output }
     }
 }
 
@@ -24,6 +26,10 @@ impl<H: fs::Files> Files for HostFiles<'_, H> {
     type Reader = HostReader<H::File>;
 
     type Writer = HostWriter<H::File>;
+
+    type Input = HostReader<Stdin>;
+
+    type Output = HostWriter<Stdout>;
 
     fn reader(&mut self, name: &str) -> Result<HostReader<H::File>, Failed> {
         match fs::open(self.rt, name) {
@@ -37,6 +43,14 @@ impl<H: fs::Files> Files for HostFiles<'_, H> {
             Ok(file) => Ok(HostWriter::new(file)),
             Err(_) => Err(Failed),
         }
+    }
+
+    fn input(&mut self) -> HostReader<Stdin> {
+        HostReader::new(self.input)
+    }
+
+    fn output(&mut self) -> HostWriter<Stdout> {
+        HostWriter::new(self.output)
     }
 }
 

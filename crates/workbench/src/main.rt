@@ -1,4 +1,4 @@
-//! The program: it runs, replays, joins, cuts and audits logs of a guest, and leads a pair and a failover, over real files and threads.
+//! The program: it runs, replays, joins, cuts and audits logs of a guest, answers a debugger that looks at them, and leads a pair and a failover, over real files and threads.
 #![tactic(auto)]
 
 mod host;
@@ -32,7 +32,7 @@ fn fault_of(error: &io::Error) -> WordsFault {
 fn status<P: Pairs>(rt: &HostRuntime, pairs: &P) -> u8
     requires { P.may_run pairs.now }
 {
-    let mut files = HostFiles::new(rt);
+    let mut files = HostFiles::new(rt, rt.stdin(), rt.stdout());
     let mut err = HostWriter::new(rt.stderr());
     let words = match arguments(rt) {
         Ok(words) => words,

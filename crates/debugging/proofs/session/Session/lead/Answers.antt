@@ -1,0 +1,8 @@
+use Rattle.std.proofs.Common.{inl, inr, refl}
+use Rattle.debugging.proofs.session.Session.lead.Goals as goal
+
+pub returns-in-Ok-clause-went : goal.returns-in-Ok-clause-went
+returns-in-Ok-clause-went c = λ hart led. inr (c.in-Ok.text.items, c.in-Ok.ensures.went hart led, refl)
+
+pub returns-in-Err-clause-went : goal.returns-in-Err-clause-went
+returns-in-Err-clause-went c = λ hart led. inl c.in_ok-nowhere.ensures

@@ -1,0 +1,11 @@
+pub mod Shown
+pub mod Memories
+pub mod Asked
+pub mod Sessions
+pub mod Points
+pub mod Notes
+pub mod Commands
+pub mod Ways
+pub mod Stops
+pub mod Answers
+pub mod Sent

@@ -1,0 +1,294 @@
+//! Commands of gdb's `monitor`.
+
+ghost use Rattle.std.specs.Prelude.{◌≡◌, ◌≤◌};
+ghost use Rattle.ft_types.specs.declared.names.TheConstants.{HART_LIMIT};
+ghost use Rattle.moments.specs.Line.{steps_of};
+ghost use Rattle.debugging.specs.Sessions.{IsOfLine};
+
+use crate::numbers::{cut, read_hex};
+use crate::queries::{hex_text, put_hart};
+use crate::runs::{count_of, hart_at, last_touch};
+use crate::session::Session;
+use crate::stops::{put, put_number};
+use ft_types::{Count, Hart, Memory, read_number};
+use hart_replay::{PlannedLeg, ReplayFault};
+use hex::FromHexError;
+use moments::{Access, Bytes, Point, Timeline, Watched};
+use std::alloc::Global;
+
+/// How many steps `race` looks at, at the most.
+const TOUCH_LIMIT: usize = 1000;
+
+/// What the commands are.
+const HELP: &[u8] =
+    b"where | goto H N | output H K | input H K | edges | who ADDRESS | race ADDRESS\n";
+
+/// A step that touched a word, by its hart and count, and whether it wrote it.
+#[derive(Clone, Copy)]
+struct Touch {
+    hart: Hart,
+    count: Count,
+    writes: bool,
+}
+
+/// The term, the moment, how many there are, and each hart's count.
+fn put_place(text: &mut Vec<u8>, line: &Timeline) -> Result<(), Memory> {
+    text.extend_from_slice(b"term ")?;
+    put_number(text, u64::from(line.term()))?;
+    text.extend_from_slice(b" moment ")?;
+    put_number(text, line.now())?;
+    text.extend_from_slice(b" of ")?;
+    put_number(text, line.last())?;
+    text.extend_from_slice(b" counts")?;
+    for number in 0..line.harts() {
+        text.push(b' ')?;
+        put_number(text, count_of(line, Hart::new(number)))?;
+    }
+    text.push(b'\n')?;
+    Ok(())
+}
+
+/// Puts a step, by its hart and count.
+fn put_step(text: &mut Vec<u8>, verb: &[u8], hart: Hart, count: Count) -> Result<(), Memory> {
+    text.extend_from_slice(verb)?;
+    text.extend_from_slice(b" hart ")?;
+    put_number(text, u64::from(hart.number()))?;
+    text.extend_from_slice(b" step ")?;
+    put_number(text, count)?;
+    text.push(b'\n')?;
+    Ok(())
+}
+
+/// The hart and the number that these words are.
+fn read_place(words: &[u8], harts: u8) -> Option<(Hart, u64)>
+    requires { harts ≤ HART_LIMIT }
+{
+    let (hart, number) = cut(words, b' ');
+    let hart = read_number(hart)?;
+    if hart >= u64::from(harts) {
+        return None;
+    }
+    Some((Hart::new(hart as u8), read_number(number)?))
+}
+
+/// The word at the address that this text is.
+fn read_watched(text: &[u8]) -> Option<Bytes> {
+    let digits = text.strip_prefix(b"0x").unwrap_or(text);
+    Some(Bytes {
+        first: read_hex(digits)?,
+        length: 4,
+    })
+}
+
+/// The step at which the hart puts out the output with this number: the line stands anywhere then.
+#[tactic(auto, using(crate::proofs::Lines::led_on, crate::proofs::Lines::stays, crate::proofs::Lines::goes_on))]
+fn output_step(line: &mut Timeline, hart: Hart, number: u64) -> Result<Option<Count>, ReplayFault>
+    ensures line { IsOfLine line.old line.new }
+{
+    line.go_to(line.last())?;
+    let Some(state) = hart_at(line, hart) else {
+        return Ok(None);
+    };
+    match state.outputs().get(number as usize) {
+        Some((count, _)) => Ok(Some(*count)),
+        None => Ok(None),
+    }
+}
+
+/// The step at which the hart is given the input with this number.
+fn input_step(legs: &[PlannedLeg], hart: Hart, number: u64) -> Option<Count> {
+    let mut left = number;
+    for leg in legs {
+        let (counts, _) = leg.inputs.of_hart(hart);
+        if left < counts.len() as u64 {
+            return Some(counts[left as usize]);
+        }
+        left -= counts.len() as u64;
+    }
+    None
+}
+
+/// Puts what the hart's next step waits for: each edge with which it has not been met.
+fn put_edges(text: &mut Vec<u8>, line: &Timeline, hart: Hart) -> Result<(), Memory> {
+    put_hart(text, line, hart)?;
+    text.push(b'\n')?;
+    let Some(leg) = line.leg() else {
+        return Ok(());
+    };
+    for edge in leg.edges.at(hart, count_of(line, hart)) {
+        let is_met = line.counts().count_of(edge.other) >= edge.after;
+        let verb: &[u8] = if is_met { b"after" } else { b"waits for" };
+        put_step(text, verb, edge.other, edge.after)?;
+    }
+    Ok(())
+}
+
+/// The step that touched the word last, before where the line stands. It stands there then.
+fn touch_before(line: &mut Timeline, word: Bytes) -> Result<Option<Touch>, ReplayFault>
+    ensures line { IsOfLine line.old line.new }
+{
+    let Some((hart, count)) = last_touch(line, Point::Watch(Watched::Access, word))? else {
+        return Ok(None);
+    };
+    Ok(Some(Touch {
+        hart,
+        count,
+        writes: matches!(line.access(), Access::Writes(_) | Access::Changes(_)),
+    }))
+}
+
+/// The last two steps of two harts that touched the word, of which one wrote it, the later one first.
+fn last_race(line: &mut Timeline, word: Bytes) -> Result<Option<(Touch, Touch)>, ReplayFault>
+    ensures line { IsOfLine line.old line.new }
+{
+    let Some(mut later) = touch_before(line, word)? else {
+        return Ok(None);
+    };
+    for _look in 0..TOUCH_LIMIT {
+        let Some(touch) = touch_before(line, word)? else {
+            return Ok(None);
+        };
+        if touch.hart != later.hart && (touch.writes || later.writes) {
+            return Ok(Some((touch, later)));
+        }
+        later = touch;
+    }
+    Ok(None)
+}
+
+/// Puts a touch.
+fn put_touch(text: &mut Vec<u8>, touch: Touch) -> Result<(), Memory> {
+    let verb: &[u8] = if touch.writes {
+        b"written by"
+    } else {
+        b"read by"
+    };
+    put_step(text, verb, touch.hart, touch.count)
+}
+
+impl Session {
+    /// Goes back to where it stood, since there is no such step.
+    #[tactic(auto, using(crate::proofs::Lines::led_on, crate::proofs::Lines::stays, crate::proofs::Lines::goes_on))]
+    fn stay(&mut self, text: &mut Vec<u8>, now: u64) -> Result<(), ReplayFault>
+        requires { now ≤ steps_of self.old.line.legs }
+        ensures line { IsOfLine self.old.line self.new.line }
+    {
+        self.line.go_to(now)?;
+        Ok(put(text, b"no such step\n")?)
+    }
+
+    /// Goes to a step of a hart, where there is one, and else back to where it stood.
+    #[tactic(auto, using(crate::proofs::Lines::led_on, crate::proofs::Lines::stays, crate::proofs::Lines::goes_on, crate::proofs::Lines::within))]
+    fn go_to_step(
+        &mut self,
+        text: &mut Vec<u8>,
+        hart: Hart,
+        count: Option<Count>,
+        now: u64,
+    ) -> Result<(), ReplayFault>
+        requires { now ≤ steps_of self.old.line.legs }
+        ensures line { IsOfLine self.old.line self.new.line }
+    {
+        let Some(count) = count else {
+            return self.stay(text, now);
+        };
+        if !self.line.go_to_count(hart, count)? {
+            return self.stay(text, now);
+        }
+        self.shown = hart;
+        Ok(put_place(text, &self.line)?)
+    }
+
+    /// Says who wrote the word last.
+    #[tactic(auto, using(crate::proofs::Lines::led_on, crate::proofs::Lines::stays, crate::proofs::Lines::goes_on, crate::proofs::Lines::within))]
+    fn tell_writer(&mut self, text: &mut Vec<u8>, word: Bytes) -> Result<(), ReplayFault>
+        ensures line { IsOfLine self.old.line self.new.line }
+    {
+        let now = self.line.now();
+        let found = last_touch(&mut self.line, Point::Watch(Watched::Write, word))?;
+        self.line.go_to(now)?;
+        match found {
+            Some((hart, count)) => Ok(put_step(text, b"written by", hart, count)?),
+            None => Ok(put(text, b"not written\n")?),
+        }
+    }
+
+    /// Says which two steps of two harts touched the word last, of which one wrote it.
+    #[tactic(auto, using(crate::proofs::Lines::led_on, crate::proofs::Lines::stays, crate::proofs::Lines::goes_on, crate::proofs::Lines::within))]
+    fn tell_race(&mut self, text: &mut Vec<u8>, word: Bytes) -> Result<(), ReplayFault>
+        ensures line { IsOfLine self.old.line self.new.line }
+    {
+        let now = self.line.now();
+        let found = last_race(&mut self.line, word)?;
+        self.line.go_to(now)?;
+        let Some((earlier, later)) = found else {
+            return Ok(put(text, b"no race\n")?);
+        };
+        put_touch(text, earlier)?;
+        Ok(put_touch(text, later)?)
+    }
+
+    /// Does what a command asks that has words behind its name.
+    fn do_with(&mut self, text: &mut Vec<u8>, name: &[u8], words: &[u8]) -> Result<(), ReplayFault>
+        ensures line { IsOfLine self.old.line self.new.line }
+    {
+        let now = self.line.now();
+        match (
+            name,
+            read_place(words, self.line.harts()),
+            read_watched(words),
+        ) {
+            (b"goto", Some((hart, count)), _) => self.go_to_step(text, hart, Some(count), now),
+            (b"output", Some((hart, number)), _) => {
+                let count = output_step(&mut self.line, hart, number)?;
+                self.go_to_step(text, hart, count, now)
+            }
+            (b"input", Some((hart, number)), _) => {
+                let count = input_step(self.line.plan().legs(), hart, number);
+                self.go_to_step(text, hart, count, now)
+            }
+            (b"who", _, Some(word)) => self.tell_writer(text, word),
+            (b"race", _, Some(word)) => self.tell_race(text, word),
+            _ => Ok(put(text, HELP)?),
+        }
+    }
+
+    /// What gdb prints for a command, whose text these digits are.
+    pub(crate) fn tell(&mut self, alloc: Global, digits: &[u8]) -> Result<Vec<u8>, ReplayFault>
+        ensures line { IsOfLine self.old.line self.new.line }
+    {
+        let mut text = Vec::new(alloc);
+        self.tell_digits(alloc, &mut text, digits)?;
+        Ok(hex_text(alloc, &text)?)
+    }
+
+    /// Does what the command asks whose text these digits are.
+    #[tactic(auto, using(crate::proofs::Lines::led_on, crate::proofs::Lines::stays, crate::proofs::Lines::goes_on))]
+    fn tell_digits(
+        &mut self,
+        alloc: Global,
+        text: &mut Vec<u8>,
+        digits: &[u8],
+    ) -> Result<(), ReplayFault>
+        ensures line { IsOfLine self.old.line self.new.line }
+    {
+        match hex::decode(alloc, digits) {
+            Ok(command) => self.tell_of(text, &command),
+            Err(FromHexError::OutOfMemory) => Err(ReplayFault::Memory),
+            Err(_) => Ok(put(text, HELP)?),
+        }
+    }
+
+    /// Does what the command asks.
+    #[tactic(auto, using(crate::proofs::Lines::led_on, crate::proofs::Lines::stays, crate::proofs::Lines::goes_on))]
+    fn tell_of(&mut self, text: &mut Vec<u8>, command: &[u8]) -> Result<(), ReplayFault>
+        ensures line { IsOfLine self.old.line self.new.line }
+    {
+        let (name, words) = cut(command, b' ');
+        match name {
+            b"where" => Ok(put_place(text, &self.line)?),
+            b"edges" => Ok(put_edges(text, &self.line, self.shown)?),
+            _ => self.do_with(text, name, words),
+        }
+    }
+}

@@ -1,0 +1,3 @@
+pub mod Feeds
+pub mod Escapes
+pub mod Cuts

@@ -1,0 +1,6 @@
+use Rattle.std.proofs.Common.{◌≡◌, take}
+use Rattle.moments.specs.machinery.Pending.{mip_after}
+use Rattle.moments.proofs.access.pending.Given as goal
+
+abbrev pub invariant-loop-input : goal.invariant-loop-input
+invariant-loop-input l = l.pending ≡ mip_after (take l.input-index l.inputs) l.fn.mip

@@ -1,0 +1,16 @@
+use Rattle.std.proofs.Common.{◌≤◌, ◌-◌}
+use Rattle.moments.specs.Stops.{LastHit}
+use Rattle.moments.proofs.Stopping.{IsElsewhere}
+use Rattle.moments.proofs.timeline.Timeline.last_hit.Given as goal
+
+abbrev pub invariant-loop-last : goal.invariant-loop-last
+invariant-loop-last l =
+    record {
+      line : IsElsewhere l.fn.self l.self;
+      later : l.fn.self.stands.moment ≤ l.self.stands.moment;
+      within : l.self.stands.moment ≤ l.end;
+      last : LastHit l.points l.fn.self l.self.stands.moment l.last;
+    }
+
+abbrev pub decreases-loop-last : goal.decreases-loop-last
+decreases-loop-last l = l.end - l.self.stands.moment

@@ -1,0 +1,59 @@
+-- What holds of each line.
+use Rattle.std.specs.Prelude.{ℕ, ◌≡◌, ◌+◌, ◌≤◌, List, Some, length, slice_get}
+use Rattle.ft_types.specs.Counts.{count_at}
+use Rattle.interleaving.specs.Log.{IsCut}
+use Rattle.interleaving.specs.Stored.{view}
+use Rattle.ft_types.specs.declared.position.Position.{Position}
+use Rattle.edge_log.specs.EdgeLog.{IsLog}
+use Rattle.log_join.specs.Stores.{StoreView, IsStore}
+use Rattle.rv32_hart.specs.Hardware.{hardware}
+use Rattle.guest_image.specs.Image.{ImageContents, guest_of}
+use Rattle.guest_image.specs.Machine.{MachineState, boot_machine}
+use Rattle.hart_lease.specs.Runs.{counts_of}
+use Rattle.hart_replay.specs.declared.plans.PlannedLeg.{PlannedLeg}
+use Rattle.hart_replay.specs.Plans.{IsPlan, log_of}
+use Rattle.hart_replay.specs.Replays.{IsOutcome}
+use Rattle.hart_replay.specs.Leading.{AreAtEnds}
+use Rattle.hart_replay.specs.Images.{GuestHistory, machine_of, IsHonestStoreOf}
+use Rattle.hart_replay.specs.Laws.{ArePlanned}
+use Rattle.moments.specs.Line.{Standing, standing_at, Leads, IsAt}
+
+-- at each moment there is one machine, whatever way the line was come along
+abbrev pub OneMachine : Type 0
+OneMachine =
+    (legs : List PlannedLeg) (start : MachineState) (moment : ℕ) (one other : MachineState) → IsAt legs start moment one → IsAt legs start moment other →
+    one ≡ other
+
+-- the plan's line leads from the image's boot to this standing, in this leg, whose edges keep the rules of a log
+pub record StandsOn (image : ImageContents) (legs : List PlannedLeg) (leg : PlannedLeg) (t : Standing) : Type 0 where
+  pub plan : IsPlan (guest_of image) legs
+  pub leads : Leads legs (standing_at (boot_machine image)) t
+  pub found : slice_get legs t.place ≡ Some leg
+  pub rules : IsLog leg.edges.start leg.edges.rows
+
+-- the counts at each moment are a closed cut of the leg
+abbrev pub CountsAreCuts : Type 0
+CountsAreCuts =
+    (image : ImageContents) (legs : List PlannedLeg) (leg : PlannedLeg) (t : Standing) → StandsOn image legs leg t →
+    IsCut (log_of leg) (counts_of t.machine)
+
+-- at the ends of the last leg the machine is an outcome of the plan, as each replay's
+abbrev pub EndsAreOutcomes : Type 0
+EndsAreOutcomes =
+    (image : ImageContents) (legs : List PlannedLeg) (leg : PlannedLeg) (t : Standing) → StandsOn image legs leg t → length legs ≤ t.place + 1 →
+    AreAtEnds t.machine leg.ends → IsOutcome image legs t.machine
+
+-- so of honest frames it is there the history's machine at the position
+abbrev pub EndsTellHistories : Type 0
+EndsTellHistories =
+    (image : ImageContents) (legs : List PlannedLeg) (leg : PlannedLeg) (t : Standing) → StandsOn image legs leg t → length legs ≤ t.place + 1 →
+    AreAtEnds t.machine leg.ends → (history : GuestHistory) (store : StoreView) (position : Position) → IsStore store →
+    IsHonestStoreOf image history store → ArePlanned store position legs →
+    view (hardware image.pages) t.machine ≡ machine_of image history position.term (count_at position.counts)
+
+-- and at each moment it is the history's machine at its counts, of the leg's term
+abbrev pub MomentsTellHistories : Type 0
+MomentsTellHistories =
+    (image : ImageContents) (legs : List PlannedLeg) (leg : PlannedLeg) (t : Standing) → StandsOn image legs leg t → (history : GuestHistory)
+    (store : StoreView) (position : Position) → IsStore store → IsHonestStoreOf image history store → ArePlanned store position legs →
+    view (hardware image.pages) t.machine ≡ machine_of image history leg.term (counts_of t.machine)

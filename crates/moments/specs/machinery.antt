@@ -1,0 +1,6 @@
+pub mod Parts
+pub mod Machines
+pub mod Kept
+pub mod Choices
+pub mod Pending
+pub mod Raising

@@ -1,0 +1,21 @@
+//! The line of a plan's steps, forwards and back.
+#![tactic(auto)]
+
+mod access;
+mod closure;
+mod cuts;
+mod laws;
+mod machines;
+mod next;
+mod points;
+mod ram;
+mod snapshots;
+mod timeline;
+mod travel;
+mod turning;
+
+pub use access::{Access, Bytes};
+pub use cuts::machine_at;
+pub use laws::honest_moments;
+pub use points::{Point, Stop, Watched};
+pub use timeline::Timeline;
