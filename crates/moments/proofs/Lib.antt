@@ -18,6 +18,7 @@ pub mod Histories
 pub mod Trimmed
 pub mod Hits
 pub mod Stopping
+pub mod Coming
 pub mod Rises
 pub mod Interrupts
 pub mod Uses

@@ -343,10 +343,12 @@ impl Timeline {
     fn keep(&mut self) -> Result<(), Memory>
         ensures { self.new ≡ self.old }
     {
-        if self.stands.moment >= self.due && self.kept.len() < KEPT_LIMIT {
-            self.kept.push(shared(&mut self.stands)?)?;
-            self.due = self.stands.moment.saturating_add(self.stretch);
+        if self.stands.moment < self.due || KEPT_LIMIT <= self.kept.len() {
+            return Ok(());
         }
+        let copy = shared(&mut self.stands)?;
+        self.kept.push(copy)?;
+        self.due = self.stands.moment.saturating_add(self.stretch);
         Ok(())
     }
 

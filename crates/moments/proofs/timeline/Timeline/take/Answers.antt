@@ -1,17 +1,29 @@
-use Rattle.std.proofs.Common.{arith}
+use Rattle.std.proofs.Common.{◌∙◌, arith, ap, refl, sym}
 use Rattle.moments.specs.machinery.Machines.{standing_of}
 use Rattle.moments.proofs.Taking.{place_in, leg_here, hart_here, next_here, quiet_here, room_here, room_in_view, quiet_went, place_went}
 use Rattle.moments.proofs.Lines.{gone_on, gone_line, same_timeline, same_line}
 use Rattle.moments.proofs.timeline.Timeline.take.Goals as goal
 
 pub take_step-requires-clause-hart : goal.take_step-requires-clause-hart
-take_step-requires-clause-hart c = ?
+take_step-requires-clause-hart c =
+    hart_here _ _ _ _ _ _ c.self.invariant.0 c.args.self.now c.self.view_is c.requires.place c.args.hart c.requires.there c.requires.next
+    c.index-legs-place.result
+    (leg_here _ _ _ _ _ _ c.self.invariant.0 c.args.self.now c.self.view_is c.requires.place c.legs-legs.result.now c.legs-legs.ensures.legs
+    c.index-legs-place.result c.index-legs-place.is)
 
 pub take_step-requires-clause-next : goal.take_step-requires-clause-next
-take_step-requires-clause-next c = ?
+take_step-requires-clause-next c =
+    next_here _ _ _ _ _ _ c.self.invariant.0 c.args.self.now c.self.view_is c.requires.place c.args.hart c.requires.there c.requires.next
+    c.index-legs-place.result
+    (leg_here _ _ _ _ _ _ c.self.invariant.0 c.args.self.now c.self.view_is c.requires.place c.legs-legs.result.now c.legs-legs.ensures.legs
+    c.index-legs-place.result c.index-legs-place.is)
 
 pub take_step-requires-clause-quiet : goal.take_step-requires-clause-quiet
-take_step-requires-clause-quiet c = ?
+take_step-requires-clause-quiet c =
+    quiet_here _ _ _ _ _ _ c.self.invariant.0 c.args.self.now c.self.view_is c.requires.place c.args.hart c.requires.there c.requires.next
+    c.index-legs-place.result
+    (leg_here _ _ _ _ _ _ c.self.invariant.0 c.args.self.now c.self.view_is c.requires.place c.legs-legs.result.now c.legs-legs.ensures.legs
+    c.index-legs-place.result c.index-legs-place.is)
 
 pub take_step-requires-clause-room : goal.take_step-requires-clause-room
 take_step-requires-clause-room c = ?
