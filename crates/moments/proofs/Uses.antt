@@ -77,17 +77,17 @@ module _ (contents : List (List ℕ)) (inputs : List Input) (h : Hart) where
       (used_by_word
       (decode_of (word_at (slice_index_or contents (page_at (received_all inputs h).pc) []) (offset_at (received_all inputs h).pc))) (length contents)
       (received_all inputs h)) Nothing used (ap (in_ram (length contents)) (received_pc inputs h) ∙ inside) (
-        used_is
-        ∙ ap (λ (o : Option Instr). used_by_word o (length contents) h) (
-          instr_is
-          ∙ ap decode_of (
-            word_is
-            ∙ ap (λ (p : ℕ). word_at (slice_index_or contents p []) offset) (page_is ∙ ap page_at (sym (received_pc inputs h)))
-            ∙ ap (word_at (slice_index_or contents (page_at (received_all inputs h).pc) [])) (offset_is ∙ ap offset_at (sym (received_pc inputs h)))
-          )
-        )
-        ∙ same_word
-          (decode_of (word_at (slice_index_or contents (page_at (received_all inputs h).pc) []) (offset_at (received_all inputs h).pc)))
-          (length contents) h (received_all inputs h) (received_registers inputs h)
+      used_is
+      ∙ ap (λ (o : Option Instr). used_by_word o (length contents) h) (
+      instr_is
+      ∙ ap decode_of (
+      word_is
+      ∙ ap (λ (p : ℕ). word_at (slice_index_or contents p []) offset) (page_is ∙ ap page_at (sym (received_pc inputs h)))
+      ∙ ap (word_at (slice_index_or contents (page_at (received_all inputs h).pc) [])) (offset_is ∙ ap offset_at (sym (received_pc inputs h)))
+      )
+      )
+      ∙ same_word
+      (decode_of (word_at (slice_index_or contents (page_at (received_all inputs h).pc) []) (offset_at (received_all inputs h).pc)))
+      (length contents) h (received_all inputs h) (received_registers inputs h)
       )
       ∙ fetches calm
