@@ -107,3 +107,13 @@ taken_off inputs h not =
     sym (interrupt_is inputs h ∙ ap (λ (on : Bool). if on then first_interrupt (bit_and h.csrs.mie (mip_after inputs h.received.mip)) else None)
     (mie_off h.csrs not))
     ) (λ s. s, λ s. s)
+
+pub not_taken : (inputs : List Input) (h : Hart) (word : ℕ) → word ≡ mstatus h.csrs → word / 8 % 2 ≢ 1 →
+    IsTrue (word / 8 % 2 == 1) ↔ IsSome (interrupt_of (received_all inputs h))
+not_taken inputs h word is not =
+    elim (eqb_tells (word / 8 % 2) 1) [
+      | inl same ↦ absurd (not same.1)
+      | inr other ↦
+          subst (λ (b : Bool). IsTrue b ↔ IsSome (interrupt_of (received_all inputs h))) (sym other.0)
+          (taken_off inputs h (subst (λ (w : ℕ). w / 8 % 2 ≢ 1) is not))
+    ]

@@ -15,7 +15,6 @@ pub mod Raised
 pub mod LegsWith
 pub mod Cutting
 pub mod Histories
-pub mod Trimmed
 pub mod Hits
 pub mod Stopping
 pub mod Coming
@@ -23,3 +22,4 @@ pub mod Rises
 pub mod Interrupts
 pub mod Uses
 pub mod Telling
+pub mod Trimmed
