@@ -326,7 +326,9 @@ impl Timeline {
     pub(crate) fn stands_there(&self)
         ensures leads { Leads self.now.legs (standing_at self.now.start) self.now.stands }
         ensures turned { IsTurned self.now.legs self.now.stands }
-    {}
+    {
+        let _last = self.last;
+    }
 
     /// What the step that comes next uses of RAM, beside the word that it fetches.
     pub fn access(&self) -> Access

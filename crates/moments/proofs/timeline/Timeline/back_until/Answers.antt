@@ -17,7 +17,7 @@ last_hit-requires-clause-within c =
 pub loop-end-preserved : goal.loop-end-preserved
 loop-end-preserved c =
     rw c.now-begin.ensures.value (back_on c.args.points.now c.args.self.now c.loop-end.self c.near.new.self c.loop-end.end c.loop-end.invariant
-    c.near.ensures.line c.last_hit.new.self c.last_hit.ensures.line (omega arith) c.in-None.ensures.last)
+    c.near.ensures.line c.last_hit.new.self c.last_hit.ensures.line (let before = c.in_ok-near.ensures.before in omega (arith, before)) c.in-None.ensures.last)
 
 pub returns-clause-stopped : goal.returns-clause-stopped
 returns-clause-stopped c =

@@ -28,10 +28,10 @@ loop-self-preserved c =
       later = omega (arith, one);
       within = omega (arith, one);
       last =
-          subst (λ (k : ℕ). LastHit c.args.points.now a k c.later_hit.result) (sym one)
-          (last_next c.args.points.now a b c.loop-self.last c.hit-hit.result c.later_hit.result c.loop-self.invariant.line c.loop-self.invariant.later
-          c.loop-self.invariant.last c.hit-hit.ensures.some c.hit-hit.ensures.none (rw c.now-in-loop-self.ensures.value at c.later_hit.ensures.some)
-          c.later_hit.ensures.none);
+          subst (λ (k : ℕ). LastHit c.args.points.now a k c.later_hit-last.result) (sym one)
+          (last_next c.args.points.now a b c.loop-self.last c.hit-hit.result c.later_hit-last.result c.loop-self.invariant.line c.loop-self.invariant.later
+          c.loop-self.invariant.last c.hit-hit.ensures.some c.hit-hit.ensures.none (rw c.now-in-loop-self.ensures.value at c.later_hit-last.ensures.some)
+          c.later_hit-last.ensures.none);
     }
 
 pub loop-self-smaller : goal.loop-self-smaller

@@ -26,4 +26,24 @@ take_step-requires-clause-quiet c =
     c.index-legs-place.result c.index-legs-place.is)
 
 pub take_step-requires-clause-room : goal.take_step-requires-clause-room
-take_step-requires-clause-room c = ?
+take_step-requires-clause-room c =
+    let lt =
+    room_here _ _ _ _ _ _ c.self.invariant.0 c.args.self.now c.self.view_is c.requires.place c.args.hart c.requires.there c.requires.next
+    c.index-legs-place.result
+    (leg_here _ _ _ _ _ _ c.self.invariant.0 c.args.self.now c.self.view_is c.requires.place c.legs-legs.result.now c.legs-legs.ensures.legs
+    c.index-legs-place.result c.index-legs-place.is) c.self.inside.last c.self.invariant.1 in
+    omega (arith, lt, c.self.ranges)
+
+pub returns-in_err-take_step-clause-room : goal.returns-in_err-take_step-clause-room
+returns-in_err-take_step-clause-room c =
+    room_in_view _ _ _ _ _ _ c.self.invariant.0 c.args.self.now c.self.view_is c.requires.place c.args.hart c.requires.there c.requires.next
+    c.index-legs-place.result
+    (leg_here _ _ _ _ _ _ c.self.invariant.0 c.args.self.now c.self.view_is c.requires.place c.legs-legs.result.now c.legs-legs.ensures.legs
+    c.index-legs-place.result c.index-legs-place.is)
+
+pub returns-clause-room : goal.returns-clause-room
+returns-clause-room c =
+    room_in_view _ _ _ _ _ _ c.self.invariant.0 c.args.self.now c.self.view_is c.requires.place c.args.hart c.requires.there c.requires.next
+    c.index-legs-place.result
+    (leg_here _ _ _ _ _ _ c.self.invariant.0 c.args.self.now c.self.view_is c.requires.place c.legs-legs.result.now c.legs-legs.ensures.legs
+    c.index-legs-place.result c.index-legs-place.is)
