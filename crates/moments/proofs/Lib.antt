@@ -16,6 +16,7 @@ pub mod LegsWith
 pub mod Cutting
 pub mod Histories
 pub mod Hits
+pub mod Picking
 pub mod Stopping
 pub mod Coming
 pub mod Rises

@@ -2,7 +2,7 @@
 
 ghost use Rattle.std.specs.Prelude.{◌≡◌, ◌≢◌, ◌↔◌, ◌<◌, ◌≤◌, ◌+◌, ◌-◌, ◌⊎◌, ◌%◌, ℕ, [], Err, Some, true, false, length, slice_get, slice_index, slice_index_or, IfOk, IfErr, OnOk, OnErr, IfSome, IfNone};
 ghost use Rattle.ft_types.specs.Counts.{count_at};
-ghost use Rattle.ft_types.specs.declared.names.TheConstants.{HART_LIMIT, INPUT_LIMIT};
+ghost use Rattle.ft_types.specs.declared.names.TheConstants.{HART_LIMIT, INPUT_LIMIT, PAGE_LIMIT};
 ghost use Rattle.input_log.specs.Inputs.{inputs_at, inputs_of};
 ghost use Rattle.guest_image.specs.Image.{guest_of};
 ghost use Rattle.guest_image.specs.Machine.{MachineState, boot_machine};
@@ -226,7 +226,8 @@ impl Timeline {
 
     /// The number of pages.
     pub fn pages(&self) -> u16
-        ensures { result ≡ length self.now.stands.machine.pages }
+        ensures value { result ≡ length self.now.stands.machine.pages }
+        ensures limit { result ≤ PAGE_LIMIT }
     {
         self.stands.machine.pages()
     }
