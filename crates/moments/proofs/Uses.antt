@@ -80,17 +80,17 @@ module _ (contents : List (List ℕ)) (inputs : List Input) (state : Hart) (take
       used ≡ used_by_word instr (length contents) state → used ≡ used_next contents (received_all inputs state)
   used_fetched inside page offset word page_at_is offset_at_is word_is instr instr_is used used_is =
       if_yes guard fetched Nothing used (sym guard_is ∙ inside) (
-        used_is
-        ∙ ap (λ (o : Option Instr). used_by_word o (length contents) state) (
-          instr_is
-          ∙ ap decode_of (
-            word_is
-            ∙ ap (λ (p : ℕ). word_at (slice_index_or contents p []) offset) (page_at_is ∙ ap page_at pc_there)
-            ∙ ap (word_at (slice_index_or contents (page_at (received_all inputs state).pc) [])) (offset_at_is ∙ ap offset_at pc_there)
-          )
-        )
-        ∙ same_word
-          (decode_of (word_at (slice_index_or contents (page_at (received_all inputs state).pc) []) (offset_at (received_all inputs state).pc)))
-          (length contents) state (received_all inputs state) (received_registers inputs state)
+      used_is
+      ∙ ap (λ (o : Option Instr). used_by_word o (length contents) state) (
+      instr_is
+      ∙ ap decode_of (
+      word_is
+      ∙ ap (λ (p : ℕ). word_at (slice_index_or contents p []) offset) (page_at_is ∙ ap page_at pc_there)
+      ∙ ap (word_at (slice_index_or contents (page_at (received_all inputs state).pc) [])) (offset_at_is ∙ ap offset_at pc_there)
+      )
+      )
+      ∙ same_word
+      (decode_of (word_at (slice_index_or contents (page_at (received_all inputs state).pc) []) (offset_at (received_all inputs state).pc)))
+      (length contents) state (received_all inputs state) (received_registers inputs state)
       )
       ∙ fetches

@@ -328,6 +328,7 @@ impl Timeline {
         ensures leads { Leads self.now.legs (standing_at self.now.start) self.now.stands }
         ensures turned { IsTurned self.now.legs self.now.stands }
     {
+        // proof: what it keeps.
         let _last = self.last;
     }
 
@@ -415,6 +416,8 @@ impl Timeline {
         ensures fault { IfErr result (λ f. InLeg self.now (λ leg. ComesShort self.now.stands.machine leg.ends f)) }
         ensures memory { IfErr result (λ f. f ≢ fault.Memory) }
     {
+        // proof: what it keeps.
+        let _last = self.last;
         let Some(leg) = self.leg() else {
             return Ok(false);
         };
