@@ -23,3 +23,8 @@ pub returns-clause-stopped : goal.returns-clause-stopped
 returns-clause-stopped c =
     stops_at_begin c.args.points.now c.args.self.now c.loop-end.self c.go_to-2.new.self c.loop-end.end c.loop-end.invariant (omega arith)
     c.in_ok-go_to-2.ensures.there
+
+pub returns-in-Some-clause-stopped : goal.returns-in-Some-clause-stopped
+returns-in-Some-clause-stopped c =
+    stops_back c.args.points.now c.args.self.now c.loop-end.self c.near.new.self c.loop-end.end c.loop-end.invariant c.near.ensures.line c.go_to.new.self
+    c.in-Some.moment c.in-Some.number c.in-Some.ensures.last c.in_ok-go_to.ensures.there

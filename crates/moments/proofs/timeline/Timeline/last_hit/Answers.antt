@@ -1,4 +1,4 @@
-use Rattle.std.proofs.Common.{ℕ, arith, refl, sym, subst}
+use Rattle.std.proofs.Common.{◌≡◌, ℕ, arith, refl, sym, subst}
 use Rattle.moments.specs.Points.{HitsAt}
 use Rattle.moments.specs.Stops.{LastHit}
 use Rattle.moments.proofs.Stopping.{line_kept, line_forward, moment_forward, same_steps, none_between, last_next}
@@ -49,3 +49,9 @@ loop-self-smaller c =
 pub returns-in_err-forward-clause-line : goal.returns-in_err-forward-clause-line
 returns-in_err-forward-clause-line c =
     line_kept c.args.self.now c.loop-self.self c.forward.new.self c.loop-self.invariant.line c.in_err-forward.ensures.kept
+
+pub returns-clause-last : goal.returns-clause-last
+returns-clause-last c =
+    let within = c.loop-self.invariant.within in
+    let end : c.loop-self.self.stands.moment ≡ c.args.end = omega (arith, within) in
+    subst (λ (k : ℕ). LastHit c.args.points.now c.args.self.now k c.loop-self.last) end c.loop-self.invariant.last

@@ -47,3 +47,28 @@ returns-clause-room c =
     c.index-legs-place.result
     (leg_here _ _ _ _ _ _ c.self.invariant.0 c.args.self.now c.self.view_is c.requires.place c.legs-legs.result.now c.legs-legs.ensures.legs
     c.index-legs-place.result c.index-legs-place.is)
+
+pub turn-requires-clause-quiet : goal.turn-requires-clause-quiet
+turn-requires-clause-quiet c =
+    rw c.legs-legs.ensures.legs
+    (quiet_went _ _ _ _ _ _ c.self.invariant.0 c.args.self.now c.self.view_is c.requires.place c.args.hart c.requires.there c.requires.next
+    c.index-legs-place.result
+    (leg_here _ _ _ _ _ _ c.self.invariant.0 c.args.self.now c.self.view_is c.requires.place c.legs-legs.result.now c.legs-legs.ensures.legs
+    c.index-legs-place.result c.index-legs-place.is) (standing_of c.take_step.new.now) c.take_step.new.stops
+    c.take_step.ensures.place (omega arith) c.in_ok-take_step.ensures.quiet)
+
+pub invariant_of-self-2 : goal.invariant_of-self-2
+invariant_of-self-2 c = (
+  gone_on _ _ _ _ _ _ c.self.invariant.0 c.index-legs-place.result c.args.hart (standing_of c.take_step.new.now) (standing_of c.turn.new.now)
+      c.turn.new.stops
+      (leg_here _ _ _ _ _ _ c.self.invariant.0 c.args.self.now c.self.view_is c.requires.place c.legs-legs.result.now c.legs-legs.ensures.legs
+      c.index-legs-place.result c.index-legs-place.is)
+      (next_here _ _ _ _ _ _ c.self.invariant.0 c.args.self.now c.self.view_is c.requires.place c.args.hart c.requires.there c.requires.next
+      c.index-legs-place.result
+      (leg_here _ _ _ _ _ _ c.self.invariant.0 c.args.self.now c.self.view_is c.requires.place c.legs-legs.result.now c.legs-legs.ensures.legs
+      c.index-legs-place.result c.index-legs-place.is))
+      c.in_ok-take_step.ensures.steps c.take_step.ensures.place c.in_ok-take_step.ensures.moment (rw c.legs-legs.ensures.legs at c.turn.ensures.leads)
+      (rw c.legs-legs.ensures.legs at c.turn.ensures.place) (rw c.legs-legs.ensures.legs at c.turn.ensures.turned)
+      (rw c.legs-legs.ensures.legs at c.turn.ensures.quiet),
+  c.self.invariant.1,
+)
