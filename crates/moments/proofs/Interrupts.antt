@@ -96,14 +96,24 @@ pub taken_on : (inputs : List Input) (h : Hart) (one : Bool) → mstatus h.csrs 
     IsTrue one ↔ IsSome (first_interrupt (bit_and h.csrs.mie (mip_after inputs h.received.mip))) → IsTrue one ↔ IsSome (interrupt_of (received_all inputs h))
 taken_on inputs h one is exact =
     subst (λ (o : Option ℕ). IsTrue one ↔ IsSome o) (
-      sym (interrupt_is inputs h ∙ ap (λ (on : Bool). if on then first_interrupt (bit_and h.csrs.mie (mip_after inputs h.received.mip)) else None)
-      (mie_on h.csrs is))
+    sym (interrupt_is inputs h ∙ ap (λ (on : Bool). if on then first_interrupt (bit_and h.csrs.mie (mip_after inputs h.received.mip)) else None)
+    (mie_on h.csrs is))
     ) exact
 
 -- and are not
 pub taken_off : (inputs : List Input) (h : Hart) → mstatus h.csrs / 8 % 2 ≢ 1 → IsTrue false ↔ IsSome (interrupt_of (received_all inputs h))
 taken_off inputs h not =
     subst (λ (o : Option ℕ). IsTrue false ↔ IsSome o) (
-      sym (interrupt_is inputs h ∙ ap (λ (on : Bool). if on then first_interrupt (bit_and h.csrs.mie (mip_after inputs h.received.mip)) else None)
-      (mie_off h.csrs not))
+    sym (interrupt_is inputs h ∙ ap (λ (on : Bool). if on then first_interrupt (bit_and h.csrs.mie (mip_after inputs h.received.mip)) else None)
+    (mie_off h.csrs not))
     ) (λ s. s, λ s. s)
+
+pub not_taken : (inputs : List Input) (h : Hart) (word : ℕ) → word ≡ mstatus h.csrs → word / 8 % 2 ≢ 1 →
+    IsTrue (word / 8 % 2 == 1) ↔ IsSome (interrupt_of (received_all inputs h))
+not_taken inputs h word is not =
+    elim (eqb_tells (word / 8 % 2) 1) [
+      | inl same ↦ absurd (not same.1)
+      | inr other ↦
+          subst (λ (b : Bool). IsTrue b ↔ IsSome (interrupt_of (received_all inputs h))) (sym other.0)
+          (taken_off inputs h (subst (λ (w : ℕ). w / 8 % 2 ≢ 1) is not))
+    ]

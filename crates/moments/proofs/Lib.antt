@@ -15,10 +15,12 @@ pub mod Raised
 pub mod LegsWith
 pub mod Cutting
 pub mod Histories
-pub mod Trimmed
 pub mod Hits
+pub mod Picking
 pub mod Stopping
+pub mod Coming
 pub mod Rises
 pub mod Interrupts
 pub mod Uses
 pub mod Telling
+pub mod Trimmed

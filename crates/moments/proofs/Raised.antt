@@ -1,5 +1,5 @@
 -- Counts that are raised edge by edge, hart by hart, until no edge asks for more.
-use Rattle.std.proofs.Common.{◌≡◌, ◌≢◌, ◌⊎◌, ◌++◌, ◌||◌, inl, inr, ℕ, zero, suc, ◌+◌, ◌-◌, ◌<◌, ◌≤◌, Bool, true, false, List, [], ◌∷◌, length, length-set, set, get_or, sum, All, Contains, refl, ap, sym, subst, ◌∙◌, arith}
+use Rattle.std.proofs.Common.{◌≡◌, ◌≢◌, ◌⊎◌, ◌++◌, ◌||◌, inl, inr, ℕ, zero, suc, ◌+◌, ◌-◌, ◌<◌, ◌≤◌, Bool, true, false, List, [], ◌∷◌, length, length-set, set, get_or, take, slice_get, slice_index_or, Some, sum, All, Contains, refl, ap, sym, subst, ◌∙◌, arith}
 use Rattle.std.proofs.Math.ListN.{get_or-eq_default}
 use Rattle.std.proofs.lemmas.Bool.{cases_lt}
 use Rattle.std.proofs.lemmas.List.{get_or-set_same, get_or-set_other}
@@ -11,6 +11,7 @@ use Rattle.interleaving.proofs.Put.{same_or_not}
 use Rattle.edge_log.specs.declared.Edge.{Edge}
 use Rattle.edge_log.specs.EdgeLog.{IsLog, row_of, edge_as}
 use Rattle.edge_log.proofs.Logs.{in_row, of_row, to_edges}
+use Rattle.log_audit.proofs.Lists.{get_at, take_more}
 use Rattle.hart_replay.specs.declared.plans.PlannedLeg.{PlannedLeg}
 use Rattle.hart_replay.specs.Plans.{IsLeg, log_of}
 use Rattle.moments.proofs.Sums.{upto, upto_sum, upto_within, sum_more}
@@ -129,22 +130,6 @@ module _ (leg : PlannedLeg) (end : ℕ) (old : List ℕ) (done : List Edge) wher
   so_next false false mid new e so_far is has there by kept met =
       subst (λ (m : List ℕ). RaisedSo leg end old (done ++ e ∷ []) false m) (sym (kept refl)) (so_kept false mid e so_far (met refl))
 
--- once all edges of the hart were looked at
-pub so_all : (leg : PlannedLeg) (hart end : ℕ) (old : List ℕ) (b : Bool) (new : List ℕ) → IsLog leg.edges.start leg.edges.rows → end ≡ count_at old hart →
-    RaisedSo leg end old (row_of leg.edges hart) b new → RaisesFor leg hart old b new
-so_all leg hart end old true new rules is so = so
-so_all leg hart end old false new rules is so = (
-  so.0,
-  λ e has own below.
-      let (x, stands, same) = in_row leg.edges.start leg.edges.rows rules e has in
-      let here : Contains (row_of leg.edges hart) x = subst (λ (h : ℕ). Contains (row_of leg.edges h) x) own stands in
-      let at : x.at ≡ e.step = ap (λ (y : TheoryEdge). y.step) same in
-      let asks : x.after ≡ e.count = ap (λ (y : TheoryEdge). y.count) same in
-      let of_other : count_at old x.other ≡ count_at old e.other = ap (λ (y : TheoryEdge). count_at old y.other) same in
-      let le = All-contains (λ (y : Edge). y.at < end → y.after ≤ count_at old y.other) (row_of leg.edges hart) x so.1 here (omega (arith, at, below, is)) in
-      omega (arith, le, asks, of_other),
-)
-
 -- an edge of the hart's row is to one of the leg's harts
 pub other_there : (leg : PlannedLeg) (many hart : ℕ) (e : Edge) → IsLeg many leg → IsLog leg.edges.start leg.edges.rows → Contains (row_of leg.edges hart) e →
     e.other < many
@@ -164,6 +149,53 @@ asks_count leg many hart end limit old e is rules has end_is within below lt =
     let le : e.after ≤ count_at leg.ends e.other =
     is.cut.closed (edge_as e) (to_edges leg.edges.rows hart e has) (omega (arith, lt, end_is, most, same)) in
     omega (arith, le, below)
+
+-- ---- from the row that was gone through
+
+-- an edge that was read there is of the row
+pub in_items : (leg : PlannedLeg) (hart i : ℕ) (items : List Edge) (e : Edge) → items ≡ row_of leg.edges hart → e ≡ slice_index_or items i e →
+    i < length items → Contains (row_of leg.edges hart) e
+in_items leg hart i items e are is lt = subst (λ (l : List Edge). Contains l e) are (i, lt, sym is)
+
+so_many : (leg : PlannedLeg) (end : ℕ) (old : List ℕ) (done : List Edge) (b : Bool) (mid : List ℕ) → RaisedSo leg end old done b mid → length mid ≡ length old
+so_many leg end old done true mid so = so.0.harts
+so_many leg end old done false mid so = ap length so.0
+
+module _ (leg : PlannedLeg) (many hart end i : ℕ) (old mid : List ℕ) (b : Bool) (items : List Edge) (e : Edge) (is_leg : IsLeg many leg)
+    (all : many ≡ length old) (rules : IsLog leg.edges.start leg.edges.rows) (are : items ≡ row_of leg.edges hart) (is : e ≡ slice_index_or items i e)
+    (lt : i < length items) (end_is : end ≡ count_at old hart) (so_far : RaisedSo leg end old (take i (row_of leg.edges hart)) b mid) where
+  has : Contains (row_of leg.edges hart) e
+  has = in_items leg hart i items e are is lt
+
+  pub row_other : e.other < length mid
+  row_other =
+      let below = other_there leg many hart e is_leg rules has in
+      let same = so_many leg end old (take i (row_of leg.edges hart)) b mid so_far in
+      omega (arith, below, same, all)
+
+  pub row_next : (raised : Bool) (new : List ℕ) → (raised ≡ true → IsRaisedBy e end mid new) → (raised ≡ false → new ≡ mid) →
+      (raised ≡ false → e.at < end → e.after ≤ count_at mid e.other) → RaisedSo leg end old (take (i + 1) (row_of leg.edges hart)) (b || raised) new
+  row_next raised new by kept met =
+      subst (λ (done : List Edge). RaisedSo leg end old done (b || raised) new)
+      (sym (take_more (row_of leg.edges hart) i e (ap (λ (l : List Edge). slice_get l i) (sym are) ∙ get_at items i e is lt)))
+      (so_next leg end old (take i (row_of leg.edges hart)) b raised mid new e so_far
+      (end_is ∙ ap (count_at old) (sym (of_row leg.edges.start leg.edges.rows rules hart e has).own)) (to_edges leg.edges.rows hart e has) row_other by kept met)
+
+-- once all edges of the hart were looked at
+pub so_all : (leg : PlannedLeg) (hart end : ℕ) (old : List ℕ) (b : Bool) (new : List ℕ) → IsLog leg.edges.start leg.edges.rows → end ≡ count_at old hart →
+    RaisedSo leg end old (row_of leg.edges hart) b new → RaisesFor leg hart old b new
+so_all leg hart end old true new rules is so = so
+so_all leg hart end old false new rules is so = (
+  so.0,
+  λ e has own below.
+      let (x, stands, same) = in_row leg.edges.start leg.edges.rows rules e has in
+      let here : Contains (row_of leg.edges hart) x = subst (λ (h : ℕ). Contains (row_of leg.edges h) x) own stands in
+      let at : x.at ≡ e.step = ap (λ (y : TheoryEdge). y.step) same in
+      let asks : x.after ≡ e.count = ap (λ (y : TheoryEdge). y.count) same in
+      let of_other : count_at old x.other ≡ count_at old e.other = ap (λ (y : TheoryEdge). count_at old y.other) same in
+      let le = All-contains (λ (y : Edge). y.at < end → y.after ≤ count_at old y.other) (row_of leg.edges hart) x so.1 here (omega (arith, at, below, is)) in
+      omega (arith, le, asks, of_other),
+)
 
 -- ---- hart by hart
 

@@ -1,5 +1,5 @@
 -- Where a timeline stops, step by step.
-use Rattle.std.proofs.Common.{◌≡◌, ◌⊎◌, inl, inr, ℕ, ◌+◌, ◌<◌, ◌≤◌, Bool, true, false, List, length, Option, Some, None, IfSome, IfNone, slice_get, Contains, refl, ap, sym, subst, ◌∙◌, arith}
+use Rattle.std.proofs.Common.{◌≡◌, ◌⊎◌, inl, inr, ℕ, ◌+◌, ◌-◌, ◌<◌, ◌≤◌, Bool, true, false, List, length, Option, Some, None, IfSome, IfNone, slice_get, Contains, refl, ap, sym, subst, ◌∙◌, arith}
 use Rattle.std.proofs.lemmas.Bool.{cases_lt}
 use Rattle.moments.specs.declared.points.Point.{Point}
 use Rattle.moments.specs.Line.{LineView, Standing, IsAtEnd, HasGoneOn, steps_of}
@@ -32,6 +32,16 @@ moment_forward b c false target on all lt le = let is = all refl in absurd (omeg
 
 pub same_steps : (a b : LineView) → IsElsewhere a b → steps_of b.legs ≡ steps_of a.legs
 same_steps a b on = ap (λ (u : LineView). steps_of u.legs) on
+
+-- one step nearer to the end
+pub nearer : (b c : LineView) (went : Bool) → went ≡ true → (went ≡ true → HasGoneOn b c 1) → (went ≡ true → b.stands.moment < steps_of b.legs) →
+    steps_of c.legs - c.stands.moment < steps_of b.legs - b.stands.moment
+nearer b c went goes on room =
+    let gone = on goes in
+    let one = gone.1 in
+    let lt = room goes in
+    let same = same_steps b c gone.0 in
+    omega (arith, one, lt, same)
 
 -- ---- points
 

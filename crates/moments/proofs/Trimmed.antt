@@ -18,8 +18,9 @@ use Rattle.hart_replay.specs.machinery.Going.{HasCome}
 use Rattle.hart_replay.proofs.Along.{along}
 use Rattle.hart_replay.proofs.Fronts.{there}
 use Rattle.hart_replay.proofs.walking.Outcomes.{boot_so_far, leg_is, leg_base}
-use Rattle.moments.specs.Cuts.{leg_to}
+use Rattle.moments.specs.Cuts.{IsAtCount, IsLeastCut, leg_to}
 use Rattle.moments.proofs.Histories.{led_more}
+use Rattle.moments.proofs.Telling.{about}
 
 -- a leg's harts have come to the machine with which it begins
 pub come_here : (leg : PlannedLeg) (m : MachineState) → IsLeg (length m.harts) leg → ((hart : ℕ) → count_at leg.base hart ≡ counts_of m hart) →
@@ -78,3 +79,18 @@ module _ (image : ImageContents) (legs : List PlannedLeg) (plan : IsPlan (guest_
   -- and leads on from it
   pub led_to : (counts : List ℕ) (k : MachineState) → LegLeads (leg_to leg counts) m k → IsOutcome image (take n legs ++ leg_to leg counts ∷ []) k
   led_to counts k leads = led_more (take n legs) (leg_to leg counts) (boot_machine image) m k led leads
+
+  -- the machine at the least cut of the first leg that has so many steps of the hart
+  pub least_machine : (hart count : ℕ) (counts : List ℕ) → All (λ before. count_at before.ends hart < count) (take n legs) →
+      IsLeastCut leg hart count counts → (k : MachineState) → IsOutcome image (take n legs ++ leg_to leg counts ∷ []) k → IsAtCount image legs hart count k
+  least_machine hart count counts first least k outcome =
+      record {
+        front = take n legs;
+        leg = leg;
+        back = drop (suc n) legs;
+        parts = about legs n leg at;
+        first = first;
+        counts = counts;
+        least = least;
+        led = outcome;
+      }

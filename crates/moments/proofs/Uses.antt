@@ -1,5 +1,5 @@
 -- What a hart's step uses, from what the code looks at.
-use Rattle.std.proofs.Common.{◌≡◌, ℕ, ◌+◌, ◌<◌, ◌%◌, ◌^◌, ◌==◌, List, [], length, slice_index, slice_index_or, Bool, true, false, Option, Some, None, IsSome, if◌then◌else◌, refl, ap, sym, ◌∙◌}
+use Rattle.std.proofs.Common.{◌≡◌, ◌↔◌, ℕ, ◌+◌, ◌%◌, ◌^◌, ◌==◌, ◌&&◌, List, [], length, slice_get, slice_index, slice_index_or, Bool, true, false, true≢false, Option, Some, None, IsTrue, IsSome, if◌then◌else◌, refl, ap, sym, subst, ◌∙◌}
 use Rattle.input_log.specs.declared.Input.{Input}
 use Rattle.rv32_isa.specs.declared.instruction.Instr.{Instr}
 use Rattle.rv32_isa.specs.declared.instruction.Instr.TheVariants.{Load, Store, Amo}
@@ -11,6 +11,7 @@ use Rattle.rv32_hart.specs.Access.{in_ram, page_at, offset_at, load_width, store
 use Rattle.moments.specs.declared.access.Access.{Access}
 use Rattle.moments.specs.declared.access.Access.TheVariants.{Nothing, Reads, Writes, Changes}
 use Rattle.moments.specs.Points.{used_at, used_by, used_by_word, used_in, used_next, unless_interrupted}
+use Rattle.moments.proofs.Moves.{some_is}
 use Rattle.moments.proofs.Interrupts.{received_pc, received_registers}
 
 if_yes : {A : Type 0} (b : Bool) (x y z : A) → b ≡ true → z ≡ x → z ≡ (if b then x else y)
@@ -38,56 +39,58 @@ same_word : (o : Option Instr) (pages : ℕ) (h k : Hart) → k.registers ≡ h.
 same_word None pages h k same = refl
 same_word (Some i) pages h k same = same_use i pages h k same
 
--- ---- the step of a hart that receives these inputs
+-- what holds of the hart that was found holds of each that is found there
+pub of_found : (harts : List Hart) (hart : ℕ) (state : Hart) (P : Hart → Type 0) → slice_get harts hart ≡ Some state → P state → (h : Hart) →
+    slice_get harts hart ≡ Some h → P h
+of_found harts hart state P was holds h found = subst P (some_is state h (sym was ∙ found)) holds
 
-module _ (contents : List (List ℕ)) (inputs : List Input) (h : Hart) where
-  pub used_interrupted : IsSome (interrupt_of (received_all inputs h)) → Nothing ≡ used_next contents (received_all inputs h)
-  used_interrupted some = of (interrupt_of (received_all inputs h)) some
+-- ---- the step of a hart that receives these inputs, and takes no interrupt
+
+module _ (contents : List (List ℕ)) (inputs : List Input) (state : Hart) (taken : Bool)
+    (exact : IsTrue taken ↔ IsSome (interrupt_of (received_all inputs state))) (calm : taken ≡ false) (pages pc : ℕ) (pages_is : pages ≡ length contents)
+    (pc_is : pc ≡ state.pc) where
+  fetches : used_in contents (received_all inputs state) ≡ used_next contents (received_all inputs state)
+  fetches = of (interrupt_of (received_all inputs state)) exact.1
     where
-      of : (o : Option ℕ) → IsSome o → Nothing ≡ unless_interrupted o contents (received_all inputs h)
-      of (Some cause) some = refl
-      of None none = cc
+      of : (o : Option ℕ) → (IsSome o → IsTrue taken) → used_in contents (received_all inputs state) ≡ unless_interrupted o contents (received_all inputs state)
+      of (Some cause) so = absurd (true≢false (sym (so refl) ∙ calm))
+      of None so = refl
 
-  fetches : (IsSome (interrupt_of (received_all inputs h)) → ⊥) → used_in contents (received_all inputs h) ≡ used_next contents (received_all inputs h)
-  fetches calm = of (interrupt_of (received_all inputs h)) calm
-    where
-      of : (o : Option ℕ) → (IsSome o → ⊥) → used_in contents (received_all inputs h) ≡ unless_interrupted o contents (received_all inputs h)
-      of (Some cause) calm = absurd (calm refl)
-      of None calm = refl
+  pc_there : pc ≡ (received_all inputs state).pc
+  pc_there = pc_is ∙ sym (received_pc inputs state)
 
-  pub used_outside : (IsSome (interrupt_of (received_all inputs h)) → ⊥) → in_ram (length contents) h.pc ≡ false →
-      Nothing ≡ used_next contents (received_all inputs h)
-  used_outside calm outside = of (received_all inputs h).pc (ap (in_ram (length contents)) (received_pc inputs h) ∙ outside) ∙ fetches calm
-    where
-      of : (pc : ℕ) → in_ram (length contents) pc ≡ false →
-          Nothing ≡
-          (if in_ram (length contents) pc
-          then used_by_word (decode_of (word_at (slice_index_or contents (page_at pc) []) (offset_at pc))) (length contents) (received_all inputs h)
-          else Nothing)
-      of pc out =
-          if_no (in_ram (length contents) pc)
-          (used_by_word (decode_of (word_at (slice_index_or contents (page_at pc) []) (offset_at pc))) (length contents) (received_all inputs h)) Nothing
-          Nothing out refl
+  guard_is : ((pc % 4 == 0) && in_ram pages pc) ≡ (((received_all inputs state).pc % 4 == 0) && in_ram (length contents) (received_all inputs state).pc)
+  guard_is =
+      ap (λ (many : ℕ). (pc % 4 == 0) && in_ram many pc) pages_is ∙ ap (λ (at : ℕ). (at % 4 == 0) && in_ram (length contents) at) pc_there
 
-  pub used_fetched : (IsSome (interrupt_of (received_all inputs h)) → ⊥) → in_ram (length contents) h.pc ≡ true → (page offset word : ℕ) →
-      page ≡ page_at h.pc → offset ≡ offset_at h.pc → word ≡ word_at (slice_index_or contents page []) offset → (instr : Option Instr) →
-      instr ≡ decode_of word → (used : Access) → used ≡ used_by_word instr (length contents) h → used ≡ used_next contents (received_all inputs h)
-  used_fetched calm inside page offset word page_is offset_is word_is instr instr_is used used_is =
-      if_yes (in_ram (length contents) (received_all inputs h).pc)
-      (used_by_word
-      (decode_of (word_at (slice_index_or contents (page_at (received_all inputs h).pc) []) (offset_at (received_all inputs h).pc))) (length contents)
-      (received_all inputs h)) Nothing used (ap (in_ram (length contents)) (received_pc inputs h) ∙ inside) (
-        used_is
-        ∙ ap (λ (o : Option Instr). used_by_word o (length contents) h) (
-          instr_is
-          ∙ ap decode_of (
-            word_is
-            ∙ ap (λ (p : ℕ). word_at (slice_index_or contents p []) offset) (page_is ∙ ap page_at (sym (received_pc inputs h)))
-            ∙ ap (word_at (slice_index_or contents (page_at (received_all inputs h).pc) [])) (offset_is ∙ ap offset_at (sym (received_pc inputs h)))
-          )
-        )
-        ∙ same_word
-          (decode_of (word_at (slice_index_or contents (page_at (received_all inputs h).pc) []) (offset_at (received_all inputs h).pc)))
-          (length contents) h (received_all inputs h) (received_registers inputs h)
+  abbrev fetched : Access
+  fetched =
+      used_by_word
+      (decode_of (word_at (slice_index_or contents (page_at (received_all inputs state).pc) []) (offset_at (received_all inputs state).pc)))
+      (length contents) (received_all inputs state)
+
+  abbrev guard : Bool
+  guard = ((received_all inputs state).pc % 4 == 0) && in_ram (length contents) (received_all inputs state).pc
+
+  pub used_outside : ((pc % 4 == 0) && in_ram pages pc) ≡ false → Nothing ≡ used_next contents (received_all inputs state)
+  used_outside outside = if_no guard fetched Nothing Nothing (sym guard_is ∙ outside) refl ∙ fetches
+
+  pub used_fetched : ((pc % 4 == 0) && in_ram pages pc) ≡ true → (page offset word : ℕ) → page ≡ page_at pc → offset ≡ offset_at pc →
+      word ≡ word_at (slice_index_or contents page []) offset → (instr : Option Instr) → instr ≡ decode_of word → (used : Access) →
+      used ≡ used_by_word instr (length contents) state → used ≡ used_next contents (received_all inputs state)
+  used_fetched inside page offset word page_at_is offset_at_is word_is instr instr_is used used_is =
+      if_yes guard fetched Nothing used (sym guard_is ∙ inside) (
+      used_is
+      ∙ ap (λ (o : Option Instr). used_by_word o (length contents) state) (
+      instr_is
+      ∙ ap decode_of (
+      word_is
+      ∙ ap (λ (p : ℕ). word_at (slice_index_or contents p []) offset) (page_at_is ∙ ap page_at pc_there)
+      ∙ ap (word_at (slice_index_or contents (page_at (received_all inputs state).pc) [])) (offset_at_is ∙ ap offset_at pc_there)
       )
-      ∙ fetches calm
+      )
+      ∙ same_word
+      (decode_of (word_at (slice_index_or contents (page_at (received_all inputs state).pc) []) (offset_at (received_all inputs state).pc)))
+      (length contents) state (received_all inputs state) (received_registers inputs state)
+      )
+      ∙ fetches

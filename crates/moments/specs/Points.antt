@@ -49,10 +49,10 @@ abbrev pub used_by_word : Option Instr → ℕ → Hart → Access
 used_by_word None pages h = Nothing
 used_by_word (Some i) pages h = used_by i pages h
 
--- the word at pc is fetched, where it lies in RAM
+-- the word at pc, which is a multiple of four, is fetched, where it lies in RAM
 abbrev pub used_in : List (List ℕ) → Hart → Access
 used_in contents h =
-    if in_ram (length contents) h.pc
+    if (h.pc % 4 == 0) && in_ram (length contents) h.pc
     then used_by_word (decode_of (word_at (slice_index_or contents (page_at h.pc) []) (offset_at h.pc))) (length contents) h
     else Nothing
 

@@ -103,6 +103,21 @@ pub(crate) fn place_of(pages: u16, address: u32) -> Option<(PageNo, u32)>
     Some((PageNo::of_word(number), address % PAGE_BYTES as u32))
 }
 
+/// The same, where the address is a multiple of four.
+fn place_of_word(pages: u16, address: u32) -> Option<(PageNo, u32)>
+    requires { pages ≤ PAGE_LIMIT }
+    ensures page { IfSome result (λ p. p.0 ≡ page_at address) }
+    ensures offset { IfSome result (λ p. p.1 ≡ offset_at address) }
+    ensures within { IfSome result (λ p. p.1 + 4 ≤ 4096) }
+    ensures some { IfSome result (λ p. ((address % 4 == 0) && is_in_ram pages address) ≡ true) }
+    ensures none { IfNone result (((address % 4 == 0) && is_in_ram pages address) ≡ false) }
+{
+    if address % 4 != 0 {
+        return None;
+    }
+    place_of(pages, address)
+}
+
 /// So many bytes at an address, where they are aligned and lie in RAM.
 fn in_ram(pages: u16, first: u32, length: u32) -> Option<Bytes>
     requires pages { pages ≤ PAGE_LIMIT }
@@ -187,7 +202,7 @@ pub(crate) fn access_of(machine: &SteppedMachine, hart: Hart, inputs: &[Input]) 
     if is_interrupted(state, inputs) {
         return Access::Nothing;
     }
-    let Some((page, offset)) = place_of(machine.pages(), state.pc()) else {
+    let Some((page, offset)) = place_of_word(machine.pages(), state.pc()) else {
         return Access::Nothing;
     };
     match decode(machine.word(page, offset)) {

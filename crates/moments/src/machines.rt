@@ -2,7 +2,7 @@
 
 ghost use Rattle.std.specs.Prelude.{◌≡◌, ◌<◌, ◌≤◌, ◌-◌, ◌+◌, ℕ, length, slice_get, slice_index, slice_index_or, [], false, Some, IfOk, OnOk, OnErr};
 ghost use Rattle.ft_types.specs.Counts.{count_at};
-ghost use Rattle.ft_types.specs.declared.names.TheConstants.{HART_LIMIT, INPUT_LIMIT};
+ghost use Rattle.ft_types.specs.declared.names.TheConstants.{HART_LIMIT, INPUT_LIMIT, PAGE_LIMIT};
 ghost use Rattle.interleaving.specs.Stored.{stored_after};
 ghost use Rattle.rv32_hart.specs.Hart.{Hart as HartRecord};
 ghost use Rattle.rv32_hart.specs.Ram.{word_at};
@@ -87,7 +87,8 @@ impl SteppedMachine {
 
     /// The number of pages.
     pub(crate) fn pages(&self) -> u16
-        ensures { result ≡ length (machine_of self.now).pages }
+        ensures value { result ≡ length (machine_of self.now).pages }
+        ensures limit { result ≤ PAGE_LIMIT }
     {
         self.ram.pages()
     }

@@ -1,6 +1,7 @@
 //! Pages of RAM that other machines may have too.
 
 ghost use Rattle.std.specs.Prelude.{◌≡◌, ◌<◌, ◌≤◌, ◌+◌, length, slice_set, slice_index, slice_index_or, [], true, IfOk, OnOk, OnErr};
+ghost use Rattle.ft_types.specs.declared.names.TheConstants.{PAGE_LIMIT};
 ghost use Rattle.rv32_hart.specs.Ram.{IsRam, word_at};
 ghost use Rattle.moments.specs.machinery.Parts.{bytes_of, is_own, contents_of, owned, ram_of};
 
@@ -87,7 +88,8 @@ impl SharedRam {
 
     /// The number of pages.
     pub(crate) fn pages(&self) -> u16
-        ensures { result ≡ length self.now.parts.items }
+        ensures value { result ≡ length self.now.parts.items }
+        ensures limit { result ≤ PAGE_LIMIT }
     {
         self.parts.len() as u16
     }

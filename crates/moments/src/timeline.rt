@@ -2,7 +2,7 @@
 
 ghost use Rattle.std.specs.Prelude.{◌≡◌, ◌≢◌, ◌↔◌, ◌<◌, ◌≤◌, ◌+◌, ◌-◌, ◌⊎◌, ◌%◌, ℕ, [], Err, Some, true, false, length, slice_get, slice_index, slice_index_or, IfOk, IfErr, OnOk, OnErr, IfSome, IfNone};
 ghost use Rattle.ft_types.specs.Counts.{count_at};
-ghost use Rattle.ft_types.specs.declared.names.TheConstants.{HART_LIMIT, INPUT_LIMIT};
+ghost use Rattle.ft_types.specs.declared.names.TheConstants.{HART_LIMIT, INPUT_LIMIT, PAGE_LIMIT};
 ghost use Rattle.input_log.specs.Inputs.{inputs_at, inputs_of};
 ghost use Rattle.guest_image.specs.Image.{guest_of};
 ghost use Rattle.guest_image.specs.Machine.{MachineState, boot_machine};
@@ -226,7 +226,8 @@ impl Timeline {
 
     /// The number of pages.
     pub fn pages(&self) -> u16
-        ensures { result ≡ length self.now.stands.machine.pages }
+        ensures value { result ≡ length self.now.stands.machine.pages }
+        ensures limit { result ≤ PAGE_LIMIT }
     {
         self.stands.machine.pages()
     }
@@ -326,7 +327,10 @@ impl Timeline {
     pub(crate) fn stands_there(&self)
         ensures leads { Leads self.now.legs (standing_at self.now.start) self.now.stands }
         ensures turned { IsTurned self.now.legs self.now.stands }
-    {}
+    {
+        // proof: what it keeps.
+        let _last = self.last;
+    }
 
     /// What the step that comes next uses of RAM, beside the word that it fetches.
     pub fn access(&self) -> Access
@@ -343,10 +347,12 @@ impl Timeline {
     fn keep(&mut self) -> Result<(), Memory>
         ensures { self.new ≡ self.old }
     {
-        if self.stands.moment >= self.due && self.kept.len() < KEPT_LIMIT {
-            self.kept.push(shared(&mut self.stands)?)?;
-            self.due = self.stands.moment.saturating_add(self.stretch);
+        if self.stands.moment < self.due || KEPT_LIMIT <= self.kept.len() {
+            return Ok(());
         }
+        let copy = shared(&mut self.stands)?;
+        self.kept.push(copy)?;
+        self.due = self.stands.moment.saturating_add(self.stretch);
         Ok(())
     }
 
@@ -410,6 +416,8 @@ impl Timeline {
         ensures fault { IfErr result (λ f. InLeg self.now (λ leg. ComesShort self.now.stands.machine leg.ends f)) }
         ensures memory { IfErr result (λ f. f ≢ fault.Memory) }
     {
+        // proof: what it keeps.
+        let _last = self.last;
         let Some(leg) = self.leg() else {
             return Ok(false);
         };

@@ -1,4 +1,4 @@
-use Rattle.std.proofs.Common.{ℕ, length, arith, sym, subst}
+use Rattle.std.proofs.Common.{ℕ, length, arith, refl, sym, subst}
 use Rattle.hart_replay.specs.Plans.{IsLeg}
 use Rattle.moments.proofs.Raised.{way_begins, way_more, way_done}
 use Rattle.moments.proofs.closure.least_cut.Goals as goal
@@ -21,10 +21,16 @@ pub raise_all-requires-clause-within : goal.raise_all-requires-clause-within
 raise_all-requires-clause-within c = c.loop-cut.invariant.within
 
 pub returns-then-not-raise_all : goal.returns-then-not-raise_all
-returns-then-not-raise_all c = ?
+returns-then-not-raise_all c =
+    way_done c.args.leg.now c.requires.leg c.args.hart c.args.count c.loop-cut.cut c.raise_all.new.cut c.raise_all.result (length c.loop-cut.cut)
+    c.if-not-raise_all.true refl c.loop-cut.invariant c.raise_all.ensures.raises
 
 pub loop-cut-preserved : goal.loop-cut-preserved
-loop-cut-preserved c = ?
+loop-cut-preserved c =
+    (way_more c.args.leg.now c.requires.leg c.args.hart c.args.count c.loop-cut.cut c.raise_all.new.cut c.raise_all.result (length c.loop-cut.cut)
+    c.if-not-raise_all.false c.loop-cut.invariant c.raise_all.ensures.raises).0
 
 pub loop-cut-smaller : goal.loop-cut-smaller
-loop-cut-smaller c = ?
+loop-cut-smaller c =
+    (way_more c.args.leg.now c.requires.leg c.args.hart c.args.count c.loop-cut.cut c.raise_all.new.cut c.raise_all.result (length c.loop-cut.cut)
+    c.if-not-raise_all.false c.loop-cut.invariant c.raise_all.ensures.raises).1

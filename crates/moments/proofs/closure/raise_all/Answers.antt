@@ -10,4 +10,4 @@ raise_for-has_raised-requires-clause-within c =
 pub loop-number-preserved : goal.loop-number-preserved
 loop-number-preserved c =
     raises_next c.args.leg.now c.loop-number.number c.args.cut.now c.loop-number.cut c.raise_for-has_raised.new.cut c.loop-number.has_raised c.raise_for-has_raised.result
-    c.loop-number.invariant c.raise_for-has_raised.ensures.raises
+    c.loop-number.invariant (rw c.new.ensures at c.raise_for-has_raised.ensures.raises)

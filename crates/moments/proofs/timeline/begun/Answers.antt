@@ -7,7 +7,7 @@ use Rattle.moments.proofs.Jumping.{first_place, timeline_begun}
 use Rattle.moments.proofs.timeline.begun.Goals as goal
 
 pub turn-requires-clause-quiet : goal.turn-requires-clause-quiet
-turn-requires-clause-quiet c = quiet_none _ _ c.no_stops-stops.result c.no_stops-stops.ensures
+turn-requires-clause-quiet c = quiet_none c.legs-2.result.now (standing_of c.in_ok-now.now) c.no_stops-stops.result c.no_stops-stops.ensures
 
 pub turn-requires-clause-place : goal.turn-requires-clause-place
 turn-requires-clause-place c =

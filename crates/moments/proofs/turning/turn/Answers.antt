@@ -15,7 +15,10 @@ loop-now-preserved c =
       place = omega (arith, behind);
       moment = c.loop-now.invariant.moment;
       machine = c.loop-now.invariant.machine;
-      quiet = quiet_none c.args.legs.now _ c.no_stops.result c.no_stops.ensures;
+      quiet =
+          quiet_none c.args.legs.now
+          (record { place = c.loop-now.now.leg + 1; moment = c.loop-now.now.moment; machine = (standing_of c.loop-now.now).machine }) c.no_stops.result
+          c.no_stops.ensures;
     }
 
 pub loop-now-smaller : goal.loop-now-smaller

@@ -3,10 +3,12 @@ use Rattle.moments.proofs.Ending.{ended_in_leg, ended_in_none}
 use Rattle.moments.proofs.timeline.Timeline.end.Goals as goal
 
 pub returns-in_default : goal.returns-in_default
-returns-in_default c = ?
-
-pub returns-in-Some : goal.returns-in-Some
-returns-in-Some c = ?
+returns-in_default c =
+    let ended = ended_in_none _ _ _ _ _ _ c.self.invariant.0 c.args.self.now c.self.view_is c.in_default.ensures.none in
+    record { end = (refl, ended.end); all = ended.all; fault = tt; memory = tt }
 
 pub returns-in-None : goal.returns-in-None
-returns-in-None c = ?
+returns-in-None c =
+    let ended =
+    ended_in_leg _ _ _ _ _ _ c.self.invariant.0 c.args.self.now c.self.view_is c.in-Some.leg.now c.in-Some.ensures.some c.in-None.ensures.ends in
+    record { end = (refl, ended.end); all = ended.all; fault = tt; memory = tt }

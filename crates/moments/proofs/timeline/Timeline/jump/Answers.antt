@@ -7,7 +7,7 @@ use Rattle.moments.proofs.Lines.{jumped, moved_line, of_line}
 use Rattle.moments.proofs.timeline.Timeline.jump.Goals as goal
 
 pub turn-requires-clause-quiet : goal.turn-requires-clause-quiet
-turn-requires-clause-quiet c = quiet_none _ _ c.no_stops-stops.result c.no_stops-stops.ensures
+turn-requires-clause-quiet c = quiet_none c.legs.result.now (standing_of c.args.there) c.no_stops-stops.result c.no_stops-stops.ensures
 
 pub turn-requires-clause-place : goal.turn-requires-clause-place
 turn-requires-clause-place c =

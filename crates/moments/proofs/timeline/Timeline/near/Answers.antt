@@ -9,4 +9,4 @@ nearest-there-requires c = let none = first_moment _ _ _ c.self.invariant.0.begu
 pub jump-requires : goal.jump-requires
 jump-requires c =
     copy_on _ _ _ _ _ _ c.self.invariant.0 c.nearest-there.result.now c.in_ok-now.now c.in_ok-now.ensures c.args.self.now c.self.view_is
-    c.nearest-there.ensures.among
+    (rw c.deref.ensures.value at c.nearest-there.ensures.among)

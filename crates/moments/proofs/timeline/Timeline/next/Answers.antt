@@ -2,7 +2,7 @@ use Rattle.moments.proofs.Lines.{quiet_there, next_there, below_there, place_the
 use Rattle.moments.proofs.timeline.Timeline.next.Goals as goal
 
 pub next_hart-requires : goal.next_hart-requires
-next_hart-requires c = quiet_there _ _ _ _ _ _ c.self.invariant.0 _ c.self.view_is _ c.in-Some.ensures.some
+next_hart-requires c = record { quiet = quiet_there _ _ _ _ _ _ c.self.invariant.0 _ c.self.view_is _ c.in-Some.ensures.some }
 
 pub returns-in-Some : goal.returns-in-Some
 returns-in-Some c =

@@ -3,8 +3,8 @@ use Rattle.moments.specs.Line.{steps_of}
 use Rattle.moments.proofs.Stopping.{IsClear}
 use Rattle.moments.proofs.timeline.Timeline.until.Given as goal
 
-abbrev pub invariant-loop-watched : goal.invariant-loop-self
-invariant-loop-watched l = IsClear l.points l.fn.self l.self
+abbrev pub invariant-loop-number : goal.invariant-loop-number
+invariant-loop-number l = IsClear l.points l.fn.self l.self
 
-abbrev pub decreases-loop-watched : goal.decreases-loop-self
-decreases-loop-watched l = steps_of l.self.legs - l.self.stands.moment
+abbrev pub decreases-loop-number : goal.decreases-loop-number
+decreases-loop-number l = steps_of l.self.legs - l.self.stands.moment
