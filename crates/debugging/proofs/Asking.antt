@@ -98,10 +98,6 @@ opens packet kind rest c is asks =
     let same : o.0 ≡ kind = cc in
     subst (λ (k : ℕ). Opens c k ≡ true) same o.3
 
--- nothing is asked for by an empty packet
-pub nothing_asked : (packet : List ℕ) (c d : Command) → packet ≡ [] → AsksFor packet c → d ≡ c
-nothing_asked packet c d is asks = let o = opened packet c asks in absurd cc
-
 -- what would change the past asks for that alone
 pub change_asked : (packet : List ℕ) (kind : ℕ) (rest : List ℕ) (c : Command) → packet ≡ kind ∷ rest →
     (kind == 71 || kind == 80 || kind == 77 || kind == 88) ≡ true → AsksFor packet c → command.Change ≡ c

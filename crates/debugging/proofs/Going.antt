@@ -28,10 +28,6 @@ back_led b c hart count e before = inl (refl, subst (λ (n : ℕ). IsBeforeStep 
 pub back_none : (b c : LineView) (hart count : ℕ) → count ≡ counts_of b.stands.machine hart → c ≡ b → count ≡ 0 → HasSteppedBack b c hart (arrival_at hart AtBegin)
 back_none b c hart count e same none = inr (inl (refl, same, rw (sym e) none))
 
-pub back_begun : (b c : LineView) (hart count : ℕ) → count ≡ counts_of b.stands.machine hart → c.stands.moment ≡ 0 → IsFirstWith c hart count →
-    HasSteppedBack b c hart (arrival_at hart AtBegin)
-back_begun b c hart count e at first = inr (inr (refl, at, subst (λ (n : ℕ). IsFirstWith c hart n) e first))
-
 -- a hart's count is that of a moment
 pub is_some_moment : (b c : LineView) (hart count now : ℕ) → count ≡ counts_of b.stands.machine hart → (c ≡ b) × NoMomentWith b hart count →
     IsAt c.legs c.start now c.stands.machine → ⊥
@@ -39,6 +35,12 @@ is_some_moment b c hart count now e none at =
     let there : IsAt b.legs b.start now b.stands.machine = subst (λ (t : LineView). IsAt t.legs t.start now t.stands.machine) none.0 at in
     let less = none.1 now b.stands.machine there in
     absurd (omega (arith, e, less))
+
+pub back_begun : (b c : LineView) (hart count now : ℕ) (there : Bool) → count ≡ counts_of b.stands.machine hart → c.stands.moment ≡ 0 →
+    (there ≡ true → IsFirstWith c hart count) → (there ≡ false → (c ≡ b) × NoMomentWith b hart count) → IsAt c.legs c.start now c.stands.machine →
+    HasSteppedBack b c hart (arrival_at hart AtBegin)
+back_begun b c hart count now true e begins first none at = inr (inr (refl, begins, subst (λ (n : ℕ). IsFirstWith c hart n) e (first refl)))
+back_begun b c hart count now false e begins first none at = absurd (is_some_moment b c hart count now e (none refl) at)
 
 -- ---- to a point
 

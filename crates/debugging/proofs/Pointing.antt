@@ -13,11 +13,9 @@ abbrev pub Makes : ℕ → Bytes → Point → Type 0
 Makes kind bytes (Break address) = ((kind ≡ 48) ⊎ (kind ≡ 49)) × (bytes.first ≡ address)
 Makes kind bytes (Watch way those) = (kind ≡ watched_kind way) × (bytes ≡ those)
 
--- an empty text names none
-pub no_point : (text : List ℕ) (point : Point) → text ≡ [] → IsPoint text point → ⊥
-no_point text (Break address) none (range, many, inl is, rest) = absurd cc
-no_point text (Break address) none (range, many, inr is, rest) = absurd cc
-no_point text (Watch way bytes) none (range, is, rest) = absurd cc
+-- something is not nothing
+pub is_none : {T : Type 0} (x : T) → None ≡ Some x → ⊥
+is_none x e = absurd cc
 
 -- the bytes of the point that a text names are read behind its first byte
 pub bytes_read : (text : List ℕ) (kind : ℕ) (rest : List ℕ) (point : Point) (read : Option Bytes) → text ≡ kind ∷ rest →

@@ -8,7 +8,7 @@ ghost use Rattle.moments.specs.declared.points.Point.{Point as point_of_specs};
 ghost use Rattle.debugging.specs.Stops.{watched_name};
 ghost use Rattle.debugging.specs.Points.{watched_kind, is_same_point, points_without, points_with, has_room, IsPoint};
 
-use crate::numbers::{cut, first_byte, read_range};
+use crate::numbers::{cut, first_byte, is, read_range};
 use ft_types::Memory;
 use moments::{Bytes, Point, Watched};
 
@@ -38,7 +38,7 @@ fn read_bytes(text: &[u8]) -> Option<Bytes>
 {
     let (none, rest) = cut(text, b',');
     let (range, _) = cut(rest, b';');
-    if none.is_empty() {
+    if is(none, b"") {
         return read_range(range);
     }
     None

@@ -82,14 +82,14 @@ fn step_back(line: &mut Timeline, hart: Hart) -> Result<Arrival, ReplayFault>
     }
     let is_there = line.go_to_count(hart, count)?;
     let now = line.now();
-    if !is_there {
-        return Ok(arrived(hart, Reason::Begin));
-    }
     if now == 0 {
         return Ok(arrived(hart, Reason::Begin));
     }
-    line.go_to(now - 1)?;
-    Ok(arrived(hart, Reason::Led))
+    if is_there {
+        line.go_to(now - 1)?;
+        return Ok(arrived(hart, Reason::Led));
+    }
+    Ok(arrived(hart, Reason::Begin))
 }
 
 /// What the stop is a reason for.

@@ -1,20 +1,18 @@
-use Rattle.debugging.proofs.Asking.{nothing_asked, change_asked, show_asked, note_asked, rest_asked}
+use Rattle.std.proofs.Common.{sym}
+use Rattle.debugging.proofs.Asking.{change_asked, show_asked, note_asked, rest_asked}
 use Rattle.debugging.proofs.commands.read_command.Goals as goal
 
-pub returns-in-None : goal.returns-in-None
-returns-in-None c = λ k asks. nothing_asked c.args.packet.now k _ c.in-None.ensures.none asks
-
 pub returns-then-is_change : goal.returns-then-is_change
-returns-then-is_change c = λ k asks. change_asked c.args.packet.now c.in-Some.kind c.in-Some.rest.now k c.in-Some.ensures.some c.if-is_change.ensures asks
+returns-then-is_change c = λ k asks. change_asked c.args.packet.now c.in-Some.kind c.in-Some.rest.now k c.in-Some.ensures.some (sym c.if-is_change.ensures) asks
 
 pub returns-then-is_show : goal.returns-then-is_show
-returns-then-is_show c = λ k asks. show_asked c.args.packet.now c.in-Some.kind c.in-Some.rest.now k c.read_show.result c.in-Some.ensures.some c.if-is_show.ensures
+returns-then-is_show c = λ k asks. show_asked c.args.packet.now c.in-Some.kind c.in-Some.rest.now k c.read_show.result c.in-Some.ensures.some (sym c.if-is_show.ensures)
     c.read_show.ensures.why c.read_show.ensures.registers c.read_show.ensures.register c.read_show.ensures.memory asks
 
 pub returns-then-is_note : goal.returns-then-is_note
-returns-then-is_note c = λ k asks. note_asked c.args.packet.now c.in-Some.kind c.in-Some.rest.now k c.read_note.result c.in-Some.ensures.some c.if-is_note.ensures
+returns-then-is_note c = λ k asks. note_asked c.args.packet.now c.in-Some.kind c.in-Some.rest.now k c.read_note.result c.in-Some.ensures.some (sym c.if-is_note.ensures)
     c.read_note.ensures.choose c.read_note.ensures.there c.read_note.ensures.insert c.read_note.ensures.remove asks
 
 pub returns : goal.returns
-returns c = λ k asks. rest_asked c.args.packet.now c.in-Some.kind c.in-Some.rest.now k c.read_way.result c.in-Some.ensures.some c.if-is_change.ensures
-    c.if-is_show.ensures c.if-is_note.ensures c.read_way.ensures asks
+returns c = λ k asks. rest_asked c.args.packet.now c.in-Some.kind c.in-Some.rest.now k c.read_way.result c.in-Some.ensures.some (sym c.if-is_change.ensures)
+    (sym c.if-is_show.ensures) (sym c.if-is_note.ensures) c.read_way.ensures asks

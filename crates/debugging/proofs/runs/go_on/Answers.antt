@@ -3,7 +3,7 @@ use Rattle.debugging.proofs.runs.go_on.Goals as goal
 
 pub returns-clause-went : goal.returns-clause-went
 returns-clause-went c = record {
-  there = c.until.new.line;
+  there = c.until.new.self;
   stop = c.in_ok-stop.stop;
   stopped = c.in_ok-stop.ensures.stopped;
   moment =

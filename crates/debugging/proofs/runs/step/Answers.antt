@@ -8,4 +8,4 @@ returns-then-is_led-clause-went c =
 
 pub returns-clause-went : goal.returns-clause-went
 returns-clause-went c =
-    let none = c.in_ok-is_led.ensures.none c.if-is_led.false in rw c.arrived.ensures (stepped_none _ _ _ _ c.count_of-count.ensures.value none.0 none.1)
+    let none = c.in_ok-is_led.ensures.none c.if-is_led.false in rw c.arrived-2.ensures (stepped_none _ _ _ _ c.count_of-count.ensures.value none.0 none.1)
