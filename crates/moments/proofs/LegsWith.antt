@@ -1,23 +1,14 @@
 -- The machine at a count of a hart: the leg in which it is, and the leg's least cut there.
-use Rattle.std.proofs.Common.{◌≡◌, ◌≢◌, ◌⊎◌, ◌++◌, inl, inr, ℕ, zero, suc, ◌+◌, ◌-◌, ◌<◌, ◌≤◌, List, [], ◌∷◌, length, take, drop, All, Contains, Option, Some, None, slice_get, refl, ap, sym, subst, ◌∙◌, arith}
+use Rattle.std.proofs.Common.{◌≡◌, ◌≢◌, inl, inr, ℕ, zero, suc, ◌-◌, ◌<◌, ◌≤◌, List, [], ◌∷◌, take, All, Contains, Some, slice_get, ap, sym, subst, ◌∙◌, arith}
 use Rattle.std.proofs.lemmas.Bool.{cases_lt}
-use Rattle.std.proofs.lemmas.List.Elements.{All-append, All-contains, All-from_recursion, All-head, All-tail}
+use Rattle.std.proofs.lemmas.List.Elements.{All-head, All-tail}
 use Rattle.ft_types.specs.Counts.{count_at}
 use Rattle.interleaving.specs.Log.{IsCut}
-use Rattle.interleaving.proofs.Cuts.{here, here_or_later}
-use Rattle.log_audit.proofs.Lists.{take_more}
+use Rattle.interleaving.proofs.Cuts.{here_or_later}
 use Rattle.hart_replay.specs.declared.plans.PlannedLeg.{PlannedLeg}
-use Rattle.hart_replay.specs.Plans.{IsLeg, IsPlan, GoOn, log_of}
+use Rattle.hart_replay.specs.Plans.{IsLeg, GoOn, log_of}
 use Rattle.moments.specs.Cuts.{IsCutAt, IsLeastCut}
 use Rattle.moments.specs.machinery.Raising.{IsLeastAbove}
-use Rattle.moments.proofs.Standings.{leg_of_all, next_base, first_base}
-
--- one leg more that ends below the count
-pub below_more : (legs : List PlannedLeg) (hart count n : ℕ) (leg : PlannedLeg) → All (λ l. count_at l.ends hart < count) (take n legs) →
-    slice_get legs n ≡ Some leg → count_at leg.ends hart < count → All (λ l. count_at l.ends hart < count) (take (n + 1) legs)
-below_more legs hart count n leg before at lt =
-    subst (λ (xs : List PlannedLeg). All (λ l. count_at l.ends hart < count) xs) (sym (take_more legs n leg at))
-    (All-append (λ l. count_at l.ends hart < count) (take n legs) (leg ∷ []) before (All-from_recursion (λ l. count_at l.ends hart < count) (leg ∷ []) (lt, tt)))
 
 -- a leg of the front is no later than the count, so the leg there begins no later
 pub base_below : (now : ℕ → ℕ) (legs : List PlannedLeg) (hart count n : ℕ) (leg : PlannedLeg) → GoOn now legs → now hart ≤ count →
@@ -49,16 +40,6 @@ none_at leg hart count counts above differs cut at =
     let le = above.least cut at.cut (omega (arith, same)) hart in
     let ge = above.count in
     differs (omega (arith, le, ge, same))
-
--- ---- no leg has it
-
-pub none_below : (legs : List PlannedLeg) (hart count : ℕ) → All (λ l. count_at l.ends hart < count) legs → (leg : PlannedLeg) (cut : ℕ → ℕ) →
-    Contains legs leg → IsCutAt leg hart count cut → ⊥
-none_below legs hart count all leg cut has at =
-    let lt = All-contains (λ (l : PlannedLeg). count_at l.ends hart < count) legs leg all has in
-    let le = at.cut.to_end hart in
-    let is = at.count in
-    omega (arith, lt, le, is)
 
 -- legs that go on from a leg that has no such cut, but ends at the count or later, have none either
 later_none : (many : ℕ) (now : ℕ → ℕ) (legs : List PlannedLeg) (hart count : ℕ) → All (IsLeg many) legs → GoOn now legs → count < now hart →

@@ -1,5 +1,5 @@
 -- Counts that are raised until they are a closed cut: private words.
-use Rattle.std.specs.Prelude.{ℕ, ◌≡◌, ◌+◌, ◌<◌, ◌≤◌, Bool, true, false, List, Contains, length, slice_set, sum}
+use Rattle.std.specs.Prelude.{ℕ, ◌≡◌, ◌<◌, ◌≤◌, Bool, true, false, List, Contains, length, slice_set, sum}
 use Rattle.ft_types.specs.Counts.{count_at}
 use Rattle.interleaving.specs.Lists.{IsWithin}
 use Rattle.interleaving.specs.Log.{Edge, IsClosed, IsCut}
