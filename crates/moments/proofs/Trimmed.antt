@@ -80,17 +80,18 @@ module _ (image : ImageContents) (legs : List PlannedLeg) (plan : IsPlan (guest_
   pub led_to : (counts : List ℕ) (k : MachineState) → LegLeads (leg_to leg counts) m k → IsOutcome image (take n legs ++ leg_to leg counts ∷ []) k
   led_to counts k leads = led_more (take n legs) (leg_to leg counts) (boot_machine image) m k led leads
 
-  -- the machine at the least cut of the first leg that has so many steps of the hart
-  pub least_machine : (hart count : ℕ) (counts : List ℕ) → All (λ before. count_at before.ends hart < count) (take n legs) →
-      IsLeastCut leg hart count counts → (k : MachineState) → IsOutcome image (take n legs ++ leg_to leg counts ∷ []) k → IsAtCount image legs hart count k
-  least_machine hart count counts first least k outcome =
-      record {
-        front = take n legs;
-        leg = leg;
-        back = drop (suc n) legs;
-        parts = about legs n leg at;
-        first = first;
-        counts = counts;
-        least = least;
-        led = outcome;
-      }
+-- the machine at the least cut of the first leg that has so many steps of the hart
+pub least_machine : (image : ImageContents) (legs : List PlannedLeg) (n : ℕ) (leg : PlannedLeg) → slice_get legs n ≡ Some leg → (hart count : ℕ)
+    (counts : List ℕ) → All (λ before. count_at before.ends hart < count) (take n legs) → IsLeastCut leg hart count counts → (k : MachineState) →
+    IsOutcome image (take n legs ++ leg_to leg counts ∷ []) k → IsAtCount image legs hart count k
+least_machine image legs n leg at hart count counts first least k outcome =
+    record {
+      front = take n legs;
+      leg = leg;
+      back = drop (suc n) legs;
+      parts = about legs n leg at;
+      first = first;
+      counts = counts;
+      least = least;
+      led = outcome;
+    }
