@@ -197,7 +197,7 @@ module _ (guest : GuestParts) (legs : List PlannedLeg) (first now : Standing) (s
     at_inside = subst (λ (u : LineView). slice_get u.legs u.stands.place ≡ Some leg) (sym view) at
 
     pub quiet_there : AreQuiet leg now.machine stops
-    quiet_there = is.quiet.1 leg at_inside
+    quiet_there = is.quiet leg at_inside
 
     pub next_there : (result : Option ℕ) → IfSome result (λ hart. IsNext leg now.machine hart) →
         IfSome result (λ hart. InLeg v (λ l. IsNext l v.stands.machine hart))

@@ -1,7 +1,6 @@
 -- A timeline that takes the step that comes next.
 use Rattle.std.proofs.Common.{◌≡◌, ℕ, ◌+◌, ◌-◌, ◌<◌, ◌≤◌, List, length, slice_get, slice_index_or, Some, refl, ap, sym, subst, ◌∙◌, arith}
 use Rattle.ft_types.specs.Guests.{GuestParts}
-use Rattle.ft_types.specs.declared.names.TheConstants.{HART_ROW}
 use Rattle.guest_image.specs.Machine.{MachineState}
 use Rattle.hart_replay.specs.declared.plans.PlannedLeg.{PlannedLeg}
 use Rattle.hart_replay.proofs.Fronts.{at_place}
@@ -34,7 +33,7 @@ module _ (guest : GuestParts) (legs : List PlannedLeg) (first now : Standing) (s
     next_here = next_inside guest legs first now snapshots stops is v view leg hart at next
 
     pub quiet_here : AreQuiet leg now.machine stops
-    quiet_here = is.quiet.1 leg at
+    quiet_here = is.quiet leg at
 
     -- the line has room for the step
     pub room_here : (last : ℕ) → last ≡ steps_of legs → now.moment < last
@@ -44,13 +43,10 @@ module _ (guest : GuestParts) (legs : List PlannedLeg) (first now : Standing) (s
     room_in_view = subst (λ (u : LineView). u.stands.moment < steps_of u.legs) view (room_here (steps_of legs) refl)
 
     -- the step was taken, in the same leg
-    module _ (went : Standing) (marks : List ℕ) (same : went.place ≡ now.place) (rows : length marks ≡ HART_ROW) (quiet : AreQuiet leg went.machine marks) where
+    module _ (went : Standing) (marks : List ℕ) (same : went.place ≡ now.place) (quiet : AreQuiet leg went.machine marks) where
       pub quiet_went : QuietAt legs went marks
-      quiet_went = (
-        rows,
-        λ other found.
-            subst (λ (l : PlannedLeg). AreQuiet l went.machine marks) (one_leg legs now.place leg other at (ap (slice_get legs) (sym same) ∙ found)) quiet,
-      )
+      quiet_went other found =
+          subst (λ (l : PlannedLeg). AreQuiet l went.machine marks) (one_leg legs now.place leg other at (ap (slice_get legs) (sym same) ∙ found)) quiet
 
       pub place_went : went.place ≤ length legs - 1
       place_went = let within = is.stands.place in omega (arith, within, same)

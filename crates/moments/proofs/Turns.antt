@@ -40,7 +40,7 @@ quiet_at_none leg m = λ hart lt.
     }
 
 pub quiet_none : (legs : List PlannedLeg) (t : Standing) (stops : List ℕ) → stops ≡ replicate HART_ROW 0 → QuietAt legs t stops
-quiet_none legs t stops is = subst (λ (s : List ℕ). QuietAt legs t s) (sym is) (refl, λ leg at. quiet_at_none leg t.machine)
+quiet_none legs t stops is = subst (λ (s : List ℕ). QuietAt legs t s) (sym is) (λ leg at. quiet_at_none leg t.machine)
 
 -- the line is led on past a leg that was led to its end
 pub turn_more : (legs : List PlannedLeg) (first t u : Standing) (leg : PlannedLeg) → slice_get legs t.place ≡ Some leg → AreAtEnds t.machine leg.ends →

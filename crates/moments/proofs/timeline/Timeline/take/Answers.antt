@@ -55,7 +55,7 @@ turn-requires-clause-quiet c =
     c.index-legs-place.result
     (leg_here _ _ _ _ _ _ c.self.invariant.0 c.args.self.now c.self.view_is c.requires.place c.legs-legs.result.now c.legs-legs.ensures.legs
     c.index-legs-place.result c.index-legs-place.is) (standing_of c.take_step.new.now) c.take_step.new.stops
-    c.take_step.ensures.place (omega arith) c.in_ok-take_step.ensures.quiet)
+    c.take_step.ensures.place c.in_ok-take_step.ensures.quiet)
 
 pub invariant_of-self-2 : goal.invariant_of-self-2
 invariant_of-self-2 c = (
