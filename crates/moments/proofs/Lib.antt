@@ -24,3 +24,5 @@ pub mod Interrupts
 pub mod Uses
 pub mod Telling
 pub mod Trimmed
+pub mod Regular
+pub mod Written
