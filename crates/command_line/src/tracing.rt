@@ -220,8 +220,11 @@ fn count_of(line: &Timeline, hart: Hart) -> Count {
     }
 }
 
-/// Goes to the hart's place.
+/// Goes to the hart's place, where the machine has the hart.
 fn go_to(line: &mut Timeline, place: Place) -> Result<(), CommandFault> {
+    if place.hart.number() >= line.harts() {
+        return Err(CommandFault::NoStep(place));
+    }
     match line.go_to_count(place.hart, place.count) {
         Ok(true) => Ok(()),
         Ok(false) => Err(CommandFault::NoStep(place)),
