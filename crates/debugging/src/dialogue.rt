@@ -76,8 +76,8 @@ impl Conversation {
     fn say(&mut self, alloc: Global, said: &mut Vec<u8>, answer: Answer) -> Result<(), Memory>
         ensures said { OnOk result (said.new.items ≡ said.old.items ++ packet_of answer) }
         ensures last { OnOk result (self.new ≡ record self.old {
-            last = last_of answer self.old.last;
-            is_over = is_last answer || self.old.is_over;
+          last = last_of answer self.old.last;
+          is_over = is_last answer || self.old.is_over;
         }) }
     {
         match answer {

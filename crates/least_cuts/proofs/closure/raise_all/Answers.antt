@@ -1,6 +1,6 @@
 use Rattle.std.proofs.Common.{length}
-use Rattle.moments.proofs.Raised.{raises_next, raises_within}
-use Rattle.moments.proofs.closure.raise_all.Goals as goal
+use Rattle.least_cuts.proofs.Raised.{raises_next, raises_within}
+use Rattle.least_cuts.proofs.closure.raise_all.Goals as goal
 
 pub raise_for-has_raised-requires-clause-within : goal.raise_for-has_raised-requires-clause-within
 raise_for-has_raised-requires-clause-within c =

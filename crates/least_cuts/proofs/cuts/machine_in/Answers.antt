@@ -8,10 +8,10 @@ use Rattle.hart_replay.specs.Plans.{IsLeg}
 use Rattle.hart_replay.specs.Replays.{LegLeads, IsOutcome}
 use Rattle.hart_replay.specs.Leading.{IsLegFault}
 use Rattle.log_audit.proofs.Lists.{get_at}
-use Rattle.moments.specs.Cuts.{leg_to}
+use Rattle.least_cuts.specs.Cuts.{leg_to}
 use Rattle.moments.proofs.Moves.{one_leg}
-use Rattle.moments.proofs.Trimmed.{front_plan, is_trimmed, based, led_to, no_leg_fault}
-use Rattle.moments.proofs.cuts.machine_in.Goals as goal
+use Rattle.least_cuts.proofs.Trimmed.{front_plan, is_trimmed, based, led_to, no_leg_fault}
+use Rattle.least_cuts.proofs.cuts.machine_in.Goals as goal
 
 pub led_by-requires : goal.led_by-requires
 led_by-requires c = record { plan = front_plan (guest_of c.args.image.now) c.args.legs.now c.args.number c.requires.plan }

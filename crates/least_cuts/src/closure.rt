@@ -6,7 +6,7 @@ ghost use Rattle.ft_types.specs.declared.names.TheConstants.{COUNT_LIMIT};
 ghost use Rattle.interleaving.specs.Lists.{IsWithin};
 ghost use Rattle.interleaving.specs.Log.{IsClosed};
 ghost use Rattle.hart_replay.specs.Plans.{IsLeg, log_of};
-ghost use Rattle.moments.specs.machinery.Raising.{IsRaisedBy, Raises, RaisesFor, IsLeastAbove};
+ghost use Rattle.least_cuts.specs.machinery.Raising.{IsRaisedBy, Raises, RaisesFor, IsLeastAbove};
 
 use edge_log::Edge;
 use ft_types::{Count, Counts, Hart};

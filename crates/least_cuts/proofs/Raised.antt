@@ -14,8 +14,8 @@ use Rattle.edge_log.proofs.Logs.{in_row, of_row, to_edges}
 use Rattle.log_audit.proofs.Lists.{get_at, take_more}
 use Rattle.hart_replay.specs.declared.plans.PlannedLeg.{PlannedLeg}
 use Rattle.hart_replay.specs.Plans.{IsLeg, log_of}
-use Rattle.moments.proofs.Sums.{upto, upto_sum, upto_within, sum_more}
-use Rattle.moments.specs.machinery.Raising.{IsRaised, IsRaisedBy, AreMetOf, RaisesFor, Raises, IsLeastAbove}
+use Rattle.least_cuts.proofs.Sums.{upto, upto_sum, upto_within, sum_more}
+use Rattle.least_cuts.specs.machinery.Raising.{IsRaised, IsRaisedBy, AreMetOf, RaisesFor, Raises, IsLeastAbove}
 
 -- a greater count in place of one adds to the sum
 pub sum_put : (xs : List ℕ) (i x : ℕ) → i < length xs → count_at xs i < x → sum xs < sum (set xs i x)

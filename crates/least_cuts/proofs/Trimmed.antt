@@ -18,9 +18,9 @@ use Rattle.hart_replay.specs.machinery.Going.{HasCome}
 use Rattle.hart_replay.proofs.Along.{along}
 use Rattle.hart_replay.proofs.Fronts.{there}
 use Rattle.hart_replay.proofs.walking.Outcomes.{boot_so_far, leg_is, leg_base}
-use Rattle.moments.specs.Cuts.{IsAtCount, IsLeastCut, leg_to}
-use Rattle.moments.proofs.Histories.{led_more}
-use Rattle.moments.proofs.Telling.{about}
+use Rattle.least_cuts.specs.Cuts.{IsAtCount, IsLeastCut, leg_to}
+use Rattle.least_cuts.proofs.Legs.{led_more}
+use Rattle.least_cuts.proofs.Legs.{about}
 
 -- a leg's harts have come to the machine with which it begins
 pub come_here : (leg : PlannedLeg) (m : MachineState) → IsLeg (length m.harts) leg → ((hart : ℕ) → count_at leg.base hart ≡ counts_of m hart) →

@@ -1,6 +1,6 @@
 use Rattle.std.proofs.Common.{◌-◌, sum}
-use Rattle.moments.proofs.Raised.{IsOnTheWay}
-use Rattle.moments.proofs.closure.least_cut.Given as goal
+use Rattle.least_cuts.proofs.Raised.{IsOnTheWay}
+use Rattle.least_cuts.proofs.closure.least_cut.Given as goal
 
 abbrev pub invariant-loop-cut : goal.invariant-loop-cut
 invariant-loop-cut l = IsOnTheWay l.leg l.fn.hart l.count l.cut

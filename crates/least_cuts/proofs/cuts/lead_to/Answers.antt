@@ -5,8 +5,8 @@ use Rattle.guest_image.specs.Machine.{MachineState}
 use Rattle.hart_lease.specs.Runs.{heard_in}
 use Rattle.hart_replay.specs.Leading.{AreAtEnds}
 use Rattle.hart_replay.proofs.GoingOn.{leads_on, fails_on}
-use Rattle.moments.proofs.Trimmed.{come_here}
-use Rattle.moments.proofs.cuts.lead_to.Goals as goal
+use Rattle.least_cuts.proofs.Trimmed.{come_here}
+use Rattle.least_cuts.proofs.cuts.lead_to.Goals as goal
 
 pub returns-clause-ok : goal.returns-clause-ok
 returns-clause-ok c =

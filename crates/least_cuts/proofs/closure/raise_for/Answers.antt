@@ -5,8 +5,8 @@ use Rattle.ft_types.specs.Counts.{count_at}
 use Rattle.ft_types.specs.declared.names.TheConstants.{COUNT_LIMIT}
 use Rattle.edge_log.specs.declared.Edge.{Edge}
 use Rattle.edge_log.specs.EdgeLog.{row_of}
-use Rattle.moments.proofs.Raised.{RaisedSo, in_items, row_other, row_next, so_all, asks_count}
-use Rattle.moments.proofs.closure.raise_for.Goals as goal
+use Rattle.least_cuts.proofs.Raised.{RaisedSo, in_items, row_other, row_next, so_all, asks_count}
+use Rattle.least_cuts.proofs.closure.raise_for.Goals as goal
 
 pub loop-edge-init : goal.loop-edge-init
 loop-edge-init c =

@@ -10,7 +10,7 @@ ghost use Rattle.interleaving.specs.Log.{IsCut};
 ghost use Rattle.hart_replay.specs.Plans.{IsLeg, IsPlan, log_of};
 ghost use Rattle.hart_replay.specs.Replays.{LegLeads, IsOutcome};
 ghost use Rattle.hart_replay.specs.Leading.{IsLegFault};
-ghost use Rattle.moments.specs.Cuts.{IsCutAt, IsLeastMachine, leg_to as leg_to_of};
+ghost use Rattle.least_cuts.specs.Cuts.{IsCutAt, IsLeastMachine, leg_to as leg_to_of};
 
 use crate::closure::least_cut;
 use ft_types::{Count, Counts, Hart, Memory, is_same_guest};

@@ -1,7 +1,7 @@
 use Rattle.std.proofs.Common.{take}
 use Rattle.edge_log.specs.EdgeLog.{row_of}
-use Rattle.moments.proofs.Raised.{RaisedSo}
-use Rattle.moments.proofs.closure.raise_for.Given as goal
+use Rattle.least_cuts.proofs.Raised.{RaisedSo}
+use Rattle.least_cuts.proofs.closure.raise_for.Given as goal
 
 abbrev pub invariant-loop-edge : goal.invariant-loop-edge
 invariant-loop-edge l =

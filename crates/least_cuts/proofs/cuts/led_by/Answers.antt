@@ -3,8 +3,8 @@ use Rattle.std.proofs.Common.{◌≢◌}
 use Rattle.hart_replay.specs.declared.fault.ReplayFault.TheVariants.{OtherGuest}
 use Rattle.hart_replay.specs.Leading.{IsLegsFault}
 use Rattle.hart_replay.proofs.Along.{boots_at}
-use Rattle.moments.proofs.Trimmed.{no_guest_fault}
-use Rattle.moments.proofs.cuts.led_by.Goals as goal
+use Rattle.least_cuts.proofs.Trimmed.{no_guest_fault}
+use Rattle.least_cuts.proofs.cuts.led_by.Goals as goal
 
 pub lead_all-requires-clause-at : goal.lead_all-requires-clause-at
 lead_all-requires-clause-at c = boots_at c.args.image.now c.args.legs.now c.requires.plan c.in_ok-boot.boot c.in_ok-boot.ensures.machine

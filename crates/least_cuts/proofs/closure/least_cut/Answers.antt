@@ -1,7 +1,7 @@
 use Rattle.std.proofs.Common.{ℕ, length, arith, refl, sym, subst}
 use Rattle.hart_replay.specs.Plans.{IsLeg}
-use Rattle.moments.proofs.Raised.{way_begins, way_more, way_done}
-use Rattle.moments.proofs.closure.least_cut.Goals as goal
+use Rattle.least_cuts.proofs.Raised.{way_begins, way_more, way_done}
+use Rattle.least_cuts.proofs.closure.least_cut.Goals as goal
 
 pub set-requires-clause-count : goal.set-requires-clause-count
 set-requires-clause-count c =

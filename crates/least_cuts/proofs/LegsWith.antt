@@ -7,8 +7,8 @@ use Rattle.interleaving.specs.Log.{IsCut}
 use Rattle.interleaving.proofs.Cuts.{here_or_later}
 use Rattle.hart_replay.specs.declared.plans.PlannedLeg.{PlannedLeg}
 use Rattle.hart_replay.specs.Plans.{IsLeg, GoOn, log_of}
-use Rattle.moments.specs.Cuts.{IsCutAt, IsLeastCut}
-use Rattle.moments.specs.machinery.Raising.{IsLeastAbove}
+use Rattle.least_cuts.specs.Cuts.{IsCutAt, IsLeastCut}
+use Rattle.least_cuts.specs.machinery.Raising.{IsLeastAbove}
 
 -- a leg of the front is no later than the count, so the leg there begins no later
 pub base_below : (now : ℕ → ℕ) (legs : List PlannedLeg) (hart count n : ℕ) (leg : PlannedLeg) → GoOn now legs → now hart ≤ count →
