@@ -26,3 +26,4 @@ pub mod Telling
 pub mod Trimmed
 pub mod Regular
 pub mod Written
+pub mod Seen

@@ -16,6 +16,6 @@ mod turning;
 
 pub use access::{Access, Bytes};
 pub use cuts::machine_at;
-pub use laws::{honest_moments, seen_writes};
+pub use laws::{honest_moments, seen_accesses};
 pub use points::{Point, Stop, Watched};
 pub use timeline::Timeline;
