@@ -18,7 +18,8 @@ use Rattle.moments.specs.Line.{Begins, StepsOn, TurnsOn}
 use Rattle.moments.specs.Laws.{CountsAreCuts}
 use Rattle.moments.specs.machinery.Kept.{IsBegun}
 use Rattle.moments.proofs.Moves.{one_leg}
-use Rattle.moments.proofs.Standings.{holds_at, counts_step, ended_counts, leg_of_all, next_base}
+use Rattle.least_cuts.proofs.Legs.{leg_of_all, next_base}
+use Rattle.moments.proofs.Standings.{holds_at, counts_step, ended_counts}
 
 -- a line begins at boot
 pub begun_at_boot : (image : ImageContents) (legs : List PlannedLeg) (m : MachineState) → m ≡ boot_machine image → IsPlan (guest_of image) legs →

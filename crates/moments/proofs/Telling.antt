@@ -28,15 +28,10 @@ use Rattle.hart_replay.proofs.honesty.Images.{honest_in}
 use Rattle.hart_replay.proofs.honesty.Legs.{is_cut, same_start, begins_of_log, leg_turns as turns_of_log}
 use Rattle.hart_replay.proofs.honesty.Plans.{finds_start}
 use Rattle.hart_replay.proofs.honesty.Replays.{boot_pages, legs_keep_pages, lead_from}
+use Rattle.least_cuts.proofs.Legs.{about}
 use Rattle.moments.specs.Laws.{MomentsTellHistories}
 use Rattle.moments.proofs.Cutting.{begun_at_boot}
 use Rattle.moments.proofs.Histories.{ComesAlong, has_come}
-
--- a list about one of its places
-pub about : {A : Type 0} (xs : List A) (i : ℕ) (x : A) → slice_get xs i ≡ Some x → xs ≡ take i xs ++ x ∷ drop (suc i) xs
-about [] i x e = cc
-about (y ∷ xs) zero x e = let same : y ≡ x = cc in ap (λ z. z ∷ xs) same
-about (y ∷ xs) (suc i) x e = ap (λ l. y ∷ l) (about xs i x e)
 
 module _ (image : ImageContents) (history : GuestHistory) (store : StoreView) (position : Position) (rules : IsStore store)
     (honest : IsHonestStore (system_of (hardware image.pages)) (view (hardware image.pages) (boot_machine image)) history store)
