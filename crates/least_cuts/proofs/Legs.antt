@@ -42,3 +42,10 @@ pub about : {A : Type 0} (xs : List A) (i : ℕ) (x : A) → slice_get xs i ≡ 
 about [] i x e = cc
 about (y ∷ xs) zero x e = let same : y ≡ x = cc in ap (λ z. z ∷ xs) same
 about (y ∷ xs) (suc i) x e = ap (λ l. y ∷ l) (about xs i x e)
+
+pub some_is : {A : Type 0} (x y : A) → Some x ≡ Some y → x ≡ y
+some_is x y e = cc
+
+-- a place of a plan has one leg
+pub one_leg : (legs : List PlannedLeg) (place : ℕ) (leg other : PlannedLeg) → slice_get legs place ≡ Some leg → slice_get legs place ≡ Some other → leg ≡ other
+one_leg legs place leg other is was = some_is leg other (sym is ∙ was)

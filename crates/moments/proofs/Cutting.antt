@@ -17,8 +17,7 @@ use Rattle.moments.specs.Line.{IsNext, Steps, Standing, standing_at, Leads}
 use Rattle.moments.specs.Line.{Begins, StepsOn, TurnsOn}
 use Rattle.moments.specs.Laws.{CountsAreCuts}
 use Rattle.moments.specs.machinery.Kept.{IsBegun}
-use Rattle.moments.proofs.Moves.{one_leg}
-use Rattle.least_cuts.proofs.Legs.{leg_of_all, next_base}
+use Rattle.least_cuts.proofs.Legs.{leg_of_all, next_base, one_leg}
 use Rattle.moments.proofs.Standings.{holds_at, counts_step, ended_counts}
 
 -- a line begins at boot

@@ -19,12 +19,11 @@ use Rattle.hart_replay.specs.declared.plans.PlannedLeg.{PlannedLeg}
 use Rattle.hart_replay.specs.Plans.{IsPlan, log_of}
 use Rattle.hart_replay.specs.Replays.{leg_turns, LegLeads, LegsLead, IsOutcome}
 use Rattle.hart_replay.specs.Leading.{AreAtEnds}
-use Rattle.least_cuts.proofs.Legs.{next_base, first_base, led_more}
+use Rattle.least_cuts.proofs.Legs.{next_base, first_base, led_more, one_leg}
 use Rattle.moments.specs.Line.{IsNext, Steps, Standing, standing_at, turned, Leads}
 use Rattle.moments.specs.Line.{Begins as BeginsThere, StepsOn, TurnsOn}
 use Rattle.moments.specs.Laws.{EndsAreOutcomes}
 use Rattle.moments.specs.machinery.Kept.{IsBegun}
-use Rattle.moments.proofs.Moves.{one_leg}
 use Rattle.moments.proofs.Standings.{holds_at, ended_counts}
 use Rattle.moments.proofs.Cutting.{begun_at_boot}
 

@@ -8,12 +8,12 @@ use Rattle.guest_image.specs.Machine.{MachineState}
 use Rattle.hart_lease.specs.Runs.{counts_of}
 use Rattle.hart_replay.specs.declared.plans.PlannedLeg.{PlannedLeg}
 use Rattle.hart_replay.proofs.Fronts.{there}
+use Rattle.least_cuts.proofs.Legs.{one_leg}
 use Rattle.moments.specs.declared.snapshots.Snapshot.{Snapshot}
 use Rattle.moments.specs.Line.{LineView, InLeg, IsAt, IsNext, NoneMayGo, Steps, Standing, standing_at, stepped, Leads, HasGoneOn, ends_of, steps_of}
 use Rattle.moments.specs.Line.{Begins, StepsOn}
 use Rattle.moments.specs.machinery.Machines.{standing_of}
 use Rattle.moments.specs.machinery.Kept.{IsBegun, Stands, IsTimeline, AreQuiet, QuietAt, IsTurned, OnLine}
-use Rattle.moments.proofs.Moves.{one_leg}
 use Rattle.moments.proofs.Keeping.{moment_within, step_room, leg_there}
 use Rattle.moments.proofs.Standings.{last_is}
 use Rattle.moments.proofs.Rises.{counts_most, counts_all}

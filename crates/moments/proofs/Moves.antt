@@ -11,14 +11,9 @@ use Rattle.hart_replay.specs.declared.plans.PlannedLeg.{PlannedLeg}
 use Rattle.hart_replay.specs.Replays.{is_halted}
 use Rattle.hart_replay.specs.Leading.{AreAtEnds}
 use Rattle.hart_replay.proofs.Fronts.{past_all}
+use Rattle.least_cuts.proofs.Legs.{one_leg, some_is}
 use Rattle.moments.specs.Line.{MayGo, IsNext, Steps, Standing, stepped, turned, turn_in, Leads}
 use Rattle.moments.specs.Line.{Begins, StepsOn, TurnsOn}
-
-pub some_is : {A : Type 0} (x y : A) → Some x ≡ Some y → x ≡ y
-some_is x y e = cc
-
-pub one_leg : (legs : List PlannedLeg) (place : ℕ) (leg other : PlannedLeg) → slice_get legs place ≡ Some leg → slice_get legs place ≡ Some other → leg ≡ other
-one_leg legs place leg other is was = some_is leg other (sym is ∙ was)
 
 -- a hart that runs is there
 pub runs_there : (m : MachineState) (hart : ℕ) → is_halted m hart ≡ false → hart < length m.harts

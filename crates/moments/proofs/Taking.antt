@@ -4,10 +4,10 @@ use Rattle.ft_types.specs.Guests.{GuestParts}
 use Rattle.guest_image.specs.Machine.{MachineState}
 use Rattle.hart_replay.specs.declared.plans.PlannedLeg.{PlannedLeg}
 use Rattle.hart_replay.proofs.Fronts.{at_place}
+use Rattle.least_cuts.proofs.Legs.{one_leg}
 use Rattle.moments.specs.Line.{LineView, InLeg, IsNext, Standing, steps_of}
 use Rattle.moments.specs.machinery.Kept.{IsTimeline, AreQuiet, QuietAt}
 use Rattle.moments.proofs.Lines.{line_of, next_inside, room_inside}
-use Rattle.moments.proofs.Moves.{one_leg}
 
 module _ (guest : GuestParts) (legs : List PlannedLeg) (first now : Standing) (snapshots : List Standing) (stops : List ℕ)
     (is : IsTimeline guest legs first now snapshots stops) (v : LineView) (view : line_of guest legs first now ≡ v)

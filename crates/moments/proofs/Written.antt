@@ -39,7 +39,8 @@ use Rattle.moments.specs.Line.{Standing, standing_at, turn_in, Leads}
 use Rattle.moments.specs.Line.{Begins, StepsOn, TurnsOn}
 use Rattle.moments.specs.Points.{HasByte, WritesByte, used_at, word_in, used_by, used_by_word, used_in, used_next, unless_interrupted}
 use Rattle.moments.specs.Laws.{WritesAreUsed}
-use Rattle.moments.proofs.Moves.{some_is, runs_there}
+use Rattle.least_cuts.proofs.Legs.{some_is}
+use Rattle.moments.proofs.Moves.{runs_there}
 use Rattle.moments.proofs.Regular.{IsRegular, same_number, receives, regular_step, regular_booted}
 
 -- the byte at this address, of these pages

@@ -4,8 +4,8 @@ use Rattle.hart_replay.specs.declared.plans.PlannedLeg.{PlannedLeg}
 use Rattle.hart_replay.specs.Plans.{IsPlan, log_of}
 use Rattle.interleaving.specs.Log.{IsCut}
 use Rattle.log_audit.proofs.Lists.{get_at}
+use Rattle.least_cuts.proofs.Legs.{one_leg}
 use Rattle.least_cuts.specs.Cuts.{IsLeastMachine}
-use Rattle.moments.proofs.Moves.{one_leg}
 use Rattle.least_cuts.proofs.LegsWith.{base_below, least_at, none_at, none_of_legs}
 use Rattle.least_cuts.proofs.Trimmed.{least_machine}
 use Rattle.least_cuts.proofs.cuts.machine_at.Goals as goal

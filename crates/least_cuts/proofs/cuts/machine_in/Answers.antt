@@ -8,8 +8,8 @@ use Rattle.hart_replay.specs.Plans.{IsLeg}
 use Rattle.hart_replay.specs.Replays.{LegLeads, IsOutcome}
 use Rattle.hart_replay.specs.Leading.{IsLegFault}
 use Rattle.log_audit.proofs.Lists.{get_at}
+use Rattle.least_cuts.proofs.Legs.{one_leg}
 use Rattle.least_cuts.specs.Cuts.{leg_to}
-use Rattle.moments.proofs.Moves.{one_leg}
 use Rattle.least_cuts.proofs.Trimmed.{front_plan, is_trimmed, based, led_to, no_leg_fault}
 use Rattle.least_cuts.proofs.cuts.machine_in.Goals as goal
 
