@@ -22,3 +22,4 @@ pub mod Uses
 pub mod Telling
 pub mod Regular
 pub mod Written
+pub mod Seen

@@ -69,7 +69,7 @@ IsTold (Writing page hart bytes) used =
     (old : List ℕ) (address : ℕ) → 0x80000000 ≤ address → page_at address ≡ page →
     slice_index (bytes old) (offset_at address) ≢ slice_index old (offset_at address) → WritesByte used address
 
-from_ram : (pages a : ℕ) → in_ram pages a ≡ true → 0x80000000 ≤ a
+pub from_ram : (pages a : ℕ) → in_ram pages a ≡ true → 0x80000000 ≤ a
 from_ram pages a is = grind (arith, nat_tests)
 
 -- so many bytes from an address on
@@ -116,7 +116,7 @@ load_told k rd a pages h used = of (a % load_width k == 0) (in_ram pages a) _ _ 
     of false c page hart k l = tt
 
 -- x0 is 0
-word_is : (h : Hart) (r : ℕ) → IsRegular h → register_of h r ≡ word_in h r
+pub word_is : (h : Hart) (r : ℕ) → IsRegular h → register_of h r ≡ word_in h r
 word_is h r is = of (r == 0) refl
   where
     of : (b : Bool) → (r == 0) ≡ b → register_of h r ≡ (if b then 0 else register_of h r)
@@ -240,7 +240,7 @@ regular_after m n t there are ran hart k found =
       | inr other ↦ are hart k (sym (get_set_other m.harts t.hart hart new other) ∙ was)
     ]
 
-regular_on : (image : ImageContents) (legs : List PlannedLeg) (t : Standing) → Leads legs (standing_at (boot_machine image)) t → AreRegular t.machine
+pub regular_on : (image : ImageContents) (legs : List PlannedLeg) (t : Standing) → Leads legs (standing_at (boot_machine image)) t → AreRegular t.machine
 regular_on image legs t Begins = regular_booted image.harts (range_with_len 0 image.harts)
 regular_on image legs t (StepsOn {t = u} leg hart n leads at next steps) =
     regular_after u.machine n (turn_in leg u.machine hart) (runs_there u.machine hart next.may.runs) (regular_on image legs u leads) steps

@@ -1,5 +1,5 @@
 -- What holds of each line.
-use Rattle.std.specs.Prelude.{ℕ, ◌≡◌, ◌≢◌, ◌+◌, ◌≤◌, List, [], Some, true, length, slice_get, slice_index, slice_index_or}
+use Rattle.std.specs.Prelude.{ℕ, ◌≡◌, ◌≢◌, ◌+◌, ◌≤◌, ◌⊎◌, List, [], Some, true, length, slice_get, slice_index, slice_index_or}
 use Rattle.ft_types.specs.Counts.{count_at}
 use Rattle.interleaving.specs.Log.{IsCut}
 use Rattle.interleaving.specs.Stored.{view}
@@ -20,7 +20,7 @@ use Rattle.hart_replay.specs.Images.{GuestHistory, machine_of, IsHonestStoreOf}
 use Rattle.hart_replay.specs.Laws.{ArePlanned}
 use Rattle.moments.specs.Line.{Standing, standing_at, Leads, IsAt, Steps}
 use Rattle.moments.specs.declared.access.Access.{Access}
-use Rattle.moments.specs.Points.{IsStepFrom, WritesByte}
+use Rattle.moments.specs.Points.{HasByte, IsStepFrom, ReadsByte, WritesByte}
 
 -- the byte of RAM at this address
 abbrev pub byte_at : MachineState → ℕ → ℕ
@@ -72,3 +72,20 @@ WritesAreUsed =
     (image : ImageContents) (legs : List PlannedLeg) (t : Standing) (h : Hart) (access : Access) → Leads legs (standing_at (boot_machine image)) t →
     (step : IsStepFrom legs t h access) → (n : MachineState) → Steps step.leg t.machine step.hart n → (address : ℕ) →
     in_ram (length t.machine.pages) address ≡ true → byte_at n address ≢ byte_at t.machine address → WritesByte access address
+
+-- the byte is one of the word at pc, or is read
+abbrev pub IsSeen : Hart → Access → ℕ → Type 0
+IsSeen h access address = HasByte (record { first = h.pc; length = 4 }) address ⊎ ReadsByte access address
+
+-- the second machine is the first, but for bytes that the hart does not see
+pub record IsAlikeFor (h : Hart) (access : Access) (m k : MachineState) : Type 0 where
+  pub harts : k.harts ≡ m.harts
+  pub pages : length k.pages ≡ length m.pages
+  pub bytes : (address : ℕ) → in_ram (length m.pages) address ≡ true → IsSeen h access address → byte_at k address ≡ byte_at m address
+
+-- And its hart comes out the same, whatever stands at bytes that it does not use so: nothing that it reads is unseen.
+abbrev pub ReadsAreUsed : Type 0
+ReadsAreUsed =
+    (image : ImageContents) (legs : List PlannedLeg) (t : Standing) (h : Hart) (access : Access) → Leads legs (standing_at (boot_machine image)) t →
+    (step : IsStepFrom legs t h access) → (k : MachineState) → IsAlikeFor h access t.machine k → (n o : MachineState) →
+    Steps step.leg t.machine step.hart n → Steps step.leg k step.hart o → slice_get o.harts step.hart ≡ slice_get n.harts step.hart

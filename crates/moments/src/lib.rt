@@ -13,6 +13,6 @@ mod travel;
 mod turning;
 
 pub use access::{Access, Bytes};
-pub use laws::{honest_moments, seen_writes};
+pub use laws::{honest_moments, seen_accesses};
 pub use points::{Point, Stop, Watched};
 pub use timeline::Timeline;
