@@ -1,5 +1,5 @@
 -- What holds of each standing of a plan's line: its moment is the sum of its counts, none of which is past its leg's end.
-use Rattle.std.proofs.Common.{◌≡◌, inl, inr, ℕ, zero, suc, ◌+◌, ◌<◌, ◌≤◌, List, [], ◌∷◌, All, Option, Some, None, length, slice_get, sum, refl, ap, sym, subst, ◌∙◌, arith}
+use Rattle.std.proofs.Common.{◌≡◌, inl, inr, ℕ, zero, suc, ◌+◌, ◌<◌, ◌≤◌, List, [], ◌∷◌, All, Some, length, slice_get, sum, refl, ap, sym, subst, ◌∙◌, arith}
 use Rattle.std.proofs.lemmas.Bool.{cases_lt}
 use Rattle.std.proofs.lemmas.List.Elements.{All-head, All-tail}
 use Rattle.ft_types.specs.Counts.{count_at}
@@ -7,13 +7,13 @@ use Rattle.ft_types.specs.Guests.{GuestParts}
 use Rattle.interleaving.specs.Log.{bump}
 use Rattle.interleaving.proofs.Put.{same_or_not, bump_same, bump_other}
 use Rattle.guest_image.specs.Machine.{MachineState}
-use Rattle.hart_lease.specs.Runs.{run_of, counts_of, steps_taken}
+use Rattle.hart_lease.specs.Runs.{counts_of, steps_taken}
 use Rattle.hart_lease.proofs.journals.Sizes.{as_large, counts_ran}
 use Rattle.hart_replay.specs.declared.plans.PlannedLeg.{PlannedLeg}
 use Rattle.hart_replay.specs.Plans.{IsLeg, IsPlan, GoOn, log_of}
 use Rattle.hart_replay.specs.Leading.{AreAtEnds}
 use Rattle.hart_replay.proofs.Fronts.{past_all}
-use Rattle.moments.specs.Line.{MayGo, IsNext, Steps, Standing, standing_at, stepped, turned, turn_in, Leads, ends_of, steps_of}
+use Rattle.moments.specs.Line.{IsNext, Steps, Standing, stepped, turned, turn_in, Leads, ends_of, steps_of}
 use Rattle.moments.specs.Line.{Begins, StepsOn, TurnsOn}
 use Rattle.moments.specs.machinery.Kept.{IsBegun}
 use Rattle.moments.proofs.Sums.{upto, upto_same, upto_less, upto_bump, upto_zero, upto_within, upto_sum, upto_more}
