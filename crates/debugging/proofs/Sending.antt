@@ -1,40 +1,25 @@
--- Signs and packets, one behind another.
-use Rattle.std.proofs.Common.{◌≡◌, ◌⊎◌, ℕ, inl, inr, List, [], ◌∷◌, ◌++◌, refl, sym, ap, ap₂, ◌∙◌, append_assoc}
+-- What is said, bit by bit.
+use Rattle.std.proofs.Common.{◌≡◌, ◌<◌, ◌+◌, ℕ, Bool, true, false, List, [], ◌∷◌, ◌++◌, take, slice_index, length, sym, ap, subst, ◌∙◌, append_assoc}
 use Rattle.std.proofs.lemmas.List.{append-nil}
-use Rattle.std.proofs.lemmas.List.Concat.{flat_map-append}
-use Rattle.std.specs.List.{flat_map, AllByRecursion}
-use Rattle.gdb_packets.specs.Packets.{spelling}
-use Rattle.gdb_packets.specs.Streams.{Item, Byte, Packet, text_of}
-use Rattle.debugging.specs.Sent.{IsSentItem, IsSent, Adds}
+use Rattle.gdb_packets.specs.declared.event.Event.{Event}
+use Rattle.debugging.specs.Conversations.{ConversationView, Hears, Talks, Goes, IsGone}
+use Rattle.debugging.specs.machinery.Added.{Adds}
 
-pub sent_none : IsSent []
-sent_none = record { items = []; each = tt; text_is = refl }
+-- nothing is added
+pub adds_none : (old new : List ℕ) → new ≡ old → new ≡ old ++ []
+adds_none old new is = is ∙ sym (append-nil old)
 
-pub sent_packet : (bytes : List ℕ) → IsSent (spelling bytes)
-sent_packet bytes = record { items = Packet bytes ∷ []; each = (tt, tt); text_is = sym (append-nil (spelling bytes)) }
+-- two texts are added, one behind the other
+pub adds_both : (old between new first second : List ℕ) → between ≡ old ++ first → new ≡ between ++ second → new ≡ old ++ first ++ second
+adds_both old between new first second p q = q ∙ ap (λ (x : List ℕ). x ++ second) p ∙ append_assoc old first second
 
-pub sent_sign : (b : ℕ) → (b ≡ 43) ⊎ (b ≡ 45) → IsSent (b ∷ [])
-sent_sign b is = record { items = Byte b ∷ []; each = (is, tt); text_is = refl }
+-- once gdb has heard what is said to one more event
+pub said_more : (c d next : ConversationView) (events before : List Event) (e : Event) (said new : List ℕ) → events ≡ before ++ e ∷ [] → Talks c before d said →
+    d.is_over ≡ false → Adds said new (Hears e d next) → Talks c events next new
+said_more c d next events before e said new is talks goes added =
+    rw (is, added.1) (Goes e next added.0 talks goes added.2)
 
-all_append : (P : Item → Type 0) (xs ys : List Item) → AllByRecursion P xs → AllByRecursion P ys → AllByRecursion P (xs ++ ys)
-all_append P [] ys a b = b
-all_append P (x ∷ xs) ys a b = (a.0, all_append P xs ys a.1 b)
-
-pub sent_append : (a b : List ℕ) → IsSent a → IsSent b → IsSent (a ++ b)
-sent_append a b s t = record {
-  items = s.items ++ t.items;
-  each = all_append IsSentItem s.items t.items s.each t.each;
-  text_is = ap₂ (λ (x : List ℕ) (y : List ℕ). x ++ y) s.text_is t.text_is ∙ sym (flat_map-append text_of s.items t.items);
-}
-
-pub adds_sent : (old new more : List ℕ) → new ≡ old ++ more → IsSent more → Adds old new
-adds_sent old new more is sent = (more, sent, is)
-
-pub adds_none : (old new : List ℕ) → new ≡ old → Adds old new
-adds_none old new is = ([], sent_none, is ∙ sym (append-nil old))
-
-pub adds_both : (a b c : List ℕ) → Adds a b → Adds b c → Adds a c
-adds_both a b c s t = (s.0 ++ t.0, sent_append s.0 t.0 s.1 t.1, t.2 ∙ ap (λ (x : List ℕ). x ++ t.0) s.2 ∙ append_assoc a s.0 t.0)
-
-pub sent_more : (old new : List ℕ) → IsSent old → Adds old new → IsSent new
-sent_more old new s a = let whole = sent_append old a.0 s a.1 in rw a.2 whole
+-- and once gdb has gone
+pub said_none : (c d : ConversationView) (events before : List Event) (e : Event) (said : List ℕ) → events ≡ before ++ e ∷ [] → Talks c before d said →
+    d.is_over ≡ true → Talks c events d said
+said_none c d events before e said is talks gone = rw is (IsGone e talks gone)

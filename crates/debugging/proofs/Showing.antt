@@ -43,7 +43,7 @@ word_behind words zero h = absurd (omega arith)
 word_behind words (suc n) h = let e : suc n - 1 ≡ n = omega arith in rw e refl
 
 -- there is none behind the end
-not_there : (harts : List Hart) (i : ℕ) (h : Hart) → length harts ≤ i → slice_get harts i ≡ Some h → ⊥
+pub not_there : (harts : List Hart) (i : ℕ) (h : Hart) → length harts ≤ i → slice_get harts i ≡ Some h → ⊥
 not_there [] i h few there = absurd cc
 not_there (x ∷ xs) zero h few there = omega (arith, few)
 not_there (x ∷ xs) (suc i) h few there = not_there xs i h (omega (arith, few)) there
@@ -55,9 +55,3 @@ pub shown_of : {T E : Type 0} (items : T → List ℕ) (r : Result T E) (s : Ses
 shown_of items r s hart text there is =
     IfOk-weaker r (λ t. items t ≡ text hart) (λ t. (h : Hart) → IsShown s h → items t ≡ text h)
     (λ t e h shown. let same : hart ≡ h = cc in subst (λ (k : Hart). items t ≡ text k) same e) is
-
--- nothing is shown of a hart that is not there
-pub none_shown : {T E : Type 0} (items : T → List ℕ) (r : Result T E) (s : SessionView) (text : Hart → List ℕ) →
-    length s.line.stands.machine.harts ≤ s.shown → IfOk r (λ t. Unit {0}) → IfOk r (λ t. (h : Hart) → IsShown s h → items t ≡ text h)
-none_shown items r s text none is =
-    IfOk-weaker r (λ t. Unit {0}) (λ t. (h : Hart) → IsShown s h → items t ≡ text h) (λ t u h shown. absurd (not_there s.line.stands.machine.harts s.shown h none shown)) is

@@ -9,7 +9,8 @@ use Rattle.debugging.specs.declared.commands.Show.{Show}
 use Rattle.debugging.specs.declared.commands.Show.TheVariants.{Why, Registers, Register, Memory}
 use Rattle.debugging.specs.Shown.{word_digits, registers_text, register_at, or_wrong}
 use Rattle.debugging.specs.Memories.{ShowsBytes, memory_answer}
-use Rattle.debugging.specs.Sessions.{SessionView, IsShown}
+use Rattle.debugging.specs.Sessions.{SessionView, IsShown, IsOfLine}
+use Rattle.debugging.specs.Commands.{AsksFor, IsStill}
 use Rattle.debugging.specs.Notes.{HasNoted, told}
 use Rattle.debugging.specs.declared.stops.Reason.TheVariants.{Led}
 use Rattle.debugging.specs.Stops.{stop_text}
@@ -35,3 +36,9 @@ Answers (command.Note note) s t a = (is_right : Bool) × HasNoted note s t is_ri
 Answers (command.Go way thread) s t a =
     (hart : ℕ) → IsLed s thread hart → Says (codes "E03") a ⊎ ((text : List ℕ) × HasGone s t way hart text × Says text a)
 Answers (command.Other other) s t a = Unit {0}
+
+-- the packet is answered as it must be, and the session before and behind it
+pub record IsAnswered (packet : List ℕ) (s t : SessionView) (a : Answer) : Type 0 where
+  pub answers : (command : Command) → AsksFor packet command → Answers command s t a
+  pub still : (command : Command) → AsksFor packet command → IsStill command → t ≡ s
+  pub line : IsOfLine s.line t.line

@@ -8,4 +8,5 @@ pub mod Commands
 pub mod Ways
 pub mod Stops
 pub mod Answers
-pub mod Sent
+pub mod Conversations
+pub mod machinery

@@ -1,5 +1,5 @@
 -- A session, and where it is led.
-use Rattle.std.specs.Prelude.{ℕ, ◌≡◌, ◌+◌, ◌<◌, List, Some, slice_get}
+use Rattle.std.specs.Prelude.{ℕ, ◌≡◌, ◌+◌, ◌<◌, List, [], Some, slice_get}
 use Rattle.rv32_hart.specs.Hart.{Hart}
 use Rattle.guest_image.specs.Machine.{MachineState}
 use Rattle.hart_lease.specs.Runs.{counts_of}
@@ -12,6 +12,10 @@ pub record SessionView : Type 0 where
   pub shown : ℕ
   pub led : ℕ
   pub points : List Point
+
+-- one that begins: hart 0 is led, and more is asked of it
+abbrev pub session_at : LineView → SessionView
+session_at line = record { line = line; shown = 0; led = 0; points = [] }
 
 -- the machine has this hart, and more is asked of it
 abbrev pub IsShown : SessionView → Hart → Type 0

@@ -1,13 +1,13 @@
 //! A session: what is asked, and what is answered.
 
-ghost use Rattle.std.specs.Prelude.{◌≡◌, ◌⊎◌, ℕ, Bool, true, List, IfOk, IfSome, None, Some, codes};
+ghost use Rattle.std.specs.Prelude.{◌≡◌, ◌≤◌, ◌⊎◌, ℕ, Bool, true, List, IfOk, IfSome, IfNone, None, Some, codes};
 ghost use Rattle.debugging.specs.declared.commands.Command.{Command as CommandOf};
 ghost use Rattle.debugging.specs.declared.commands.Show.TheVariants as Show;
 ghost use Rattle.debugging.specs.declared.numbers.Thread.TheVariants as Thread;
 ghost use Rattle.debugging.specs.Asked.{IsOfHart};
 ghost use Rattle.debugging.specs.Commands.{AsksFor, IsStill};
 ghost use Rattle.debugging.specs.Notes.{HasChosen, HasNoted, harts_of, told};
-ghost use Rattle.debugging.specs.Sessions.{IsShown, IsOfLine};
+ghost use Rattle.debugging.specs.Sessions.{IsShown, IsOfLine, session_at};
 ghost use Rattle.debugging.specs.Ways.{IsLed, HasGone};
 ghost use Rattle.debugging.specs.Answers.{Says, IsShowing, Answers};
 
@@ -91,7 +91,7 @@ impl Model for Session {
 impl Session {
     /// A session that stands where the timeline does.
     pub fn begin(alloc: Global, line: Timeline) -> Session
-        ensures { result.line ≡ line }
+        ensures { result ≡ session_at line }
     {
         Session {
             line,
@@ -168,7 +168,8 @@ impl Session {
 
     /// The hart of which more is asked, where the machine has it.
     fn chosen(&self) -> Option<&HartState>
-        ensures { IfSome result (λ h. IsShown self.now h.now) }
+        ensures some { IfSome result (λ h. IsShown self.now h.now) }
+        ensures none { IfNone result (harts_of self.now ≤ self.now.shown) }
     {
         hart_at(&self.line, self.shown)
     }

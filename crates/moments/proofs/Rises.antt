@@ -15,7 +15,7 @@ use Rattle.moments.specs.Line.{Begins, StepsOn, TurnsOn}
 use Rattle.moments.specs.machinery.Kept.{IsBegun}
 use Rattle.moments.proofs.Moves.{along, later, same_moment}
 use Rattle.moments.proofs.Standings.{Holds, holds_at, counts_step, ends_below}
-use Rattle.moments.proofs.Sums.{upto_less, upto_sum, upto_more}
+use Rattle.least_cuts.proofs.Sums.{upto_less, upto_sum, upto_more}
 
 bump_most : (now : ℕ → ℕ) (hart h : ℕ) → bump now hart h ≤ now h + 1
 bump_most now hart h =

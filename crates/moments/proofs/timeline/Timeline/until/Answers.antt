@@ -1,4 +1,4 @@
-use Rattle.moments.proofs.Stopping.{clear_begins, clear_on, nearer, stops_watched, stops_broken, stops_at_end, line_kept}
+use Rattle.moments.proofs.Stopping.{clear_begins, clear_on, stops_watched, stops_broken, stops_at_end, line_kept}
 use Rattle.moments.proofs.timeline.Timeline.until.Goals as goal
 
 pub loop-number-init : goal.loop-number-init
