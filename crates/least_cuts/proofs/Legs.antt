@@ -1,5 +1,5 @@
 -- Legs of a plan: where each begins, and one more of them.
-use Rattle.std.proofs.Common.{◌≡◌, ℕ, zero, suc, ◌+◌, ◌++◌, List, [], ◌∷◌, All, Option, Some, drop, take, slice_get, refl, ap, sym, subst, ◌∙◌, arith}
+use Rattle.std.proofs.Common.{◌≡◌, ℕ, zero, suc, ◌+◌, ◌++◌, List, [], ◌∷◌, All, Some, drop, take, slice_get, refl, ap, sym, subst, ◌∙◌, arith}
 use Rattle.std.proofs.lemmas.List.Elements.{All-head, All-tail}
 use Rattle.ft_types.specs.Counts.{count_at}
 use Rattle.guest_image.specs.Machine.{MachineState}

@@ -1,5 +1,5 @@
 -- Counts that are raised edge by edge, hart by hart, until no edge asks for more.
-use Rattle.std.proofs.Common.{◌≡◌, ◌≢◌, ◌⊎◌, ◌++◌, ◌||◌, inl, inr, ℕ, zero, suc, ◌+◌, ◌-◌, ◌<◌, ◌≤◌, Bool, true, false, List, [], ◌∷◌, length, length-set, set, get_or, take, slice_get, slice_index_or, Some, sum, All, Contains, refl, ap, sym, subst, ◌∙◌, arith}
+use Rattle.std.proofs.Common.{◌≡◌, ◌⊎◌, ◌++◌, ◌||◌, inl, inr, ℕ, zero, suc, ◌+◌, ◌-◌, ◌<◌, ◌≤◌, Bool, true, false, List, [], ◌∷◌, length, length-set, set, take, slice_get, slice_index_or, sum, All, Contains, refl, ap, sym, subst, ◌∙◌, arith}
 use Rattle.std.proofs.Math.ListN.{get_or-eq_default}
 use Rattle.std.proofs.lemmas.Bool.{cases_lt}
 use Rattle.std.proofs.lemmas.List.{get_or-set_same, get_or-set_other}
@@ -14,7 +14,7 @@ use Rattle.edge_log.proofs.Logs.{in_row, of_row, to_edges}
 use Rattle.log_audit.proofs.Lists.{get_at, take_more}
 use Rattle.hart_replay.specs.declared.plans.PlannedLeg.{PlannedLeg}
 use Rattle.hart_replay.specs.Plans.{IsLeg, log_of}
-use Rattle.least_cuts.proofs.Sums.{upto, upto_sum, upto_within, sum_more}
+use Rattle.least_cuts.proofs.Sums.{upto_sum, upto_within, sum_more}
 use Rattle.least_cuts.specs.machinery.Raising.{IsRaised, IsRaisedBy, AreMetOf, RaisesFor, Raises, IsLeastAbove}
 
 -- a greater count in place of one adds to the sum

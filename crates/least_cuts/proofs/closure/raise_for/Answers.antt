@@ -1,4 +1,4 @@
-use Rattle.std.proofs.Common.{[], List, refl, length, take, ◌<◌, ◌≤◌, subst}
+use Rattle.std.proofs.Common.{[], List, refl, length, ◌<◌, ◌≤◌, subst}
 use Rattle.std.proofs.lemmas.List.{take_all}
 use Rattle.std.proofs.lemmas.List.Elements.{All-from_recursion}
 use Rattle.ft_types.specs.Counts.{count_at}

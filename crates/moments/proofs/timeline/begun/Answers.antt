@@ -1,5 +1,4 @@
-use Rattle.std.proofs.Common.{◌≡◌, ◌≤◌, ◌-◌, ◌∙◌, List, length, ap, sym, subst}
-use Rattle.hart_replay.specs.declared.plans.PlannedLeg.{PlannedLeg}
+use Rattle.std.proofs.Common.{◌≤◌, ◌-◌, ◌∙◌, length, ap, sym, subst}
 use Rattle.moments.specs.Line.{Standing, steps_of}
 use Rattle.moments.specs.machinery.Machines.{standing_of}
 use Rattle.moments.proofs.Turns.{quiet_none}
