@@ -70,7 +70,7 @@ else
     image=${elf%elf}image
     keep lua "$image"
     logs=("$work"/lua/log.*)
-    number=$("$workbench" replay "$image" "${logs[@]}" | awk '$1 == "out" && $6 != "00000000" { print $2; exit }')
+    number=$("$workbench" replay "$image" "${logs[@]}" | awk '$1 == "out" && $6 != "00000000" && number == "" { number = $2 } END { print number }')
     look "$image" "${logs[@]}" -- "file $elf" TARGET "monitor output 0 $number" 'maintenance flush register-cache' 'watch answers[0]' reverse-continue bt > "$work/lua.said"
     sed -nE 's/^#[0-9]+ +(0x[0-9a-f]+ in )?([a-z_A-Z]+) \(.* at [^ ]*(console|lua)\.c:([0-9]+)$/\2 \4/p' "$work/lua.said" | head -2 > "$work/frames"
     is 'the functions of Lua that put out the third answer' "$(printf 'put %s\nprint %s' "$(line_of 'answers\[printed++')" "$(line_of 'put(text\[byte\]')")" "$(cat "$work/frames")"

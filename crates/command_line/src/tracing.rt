@@ -127,7 +127,7 @@ fn outset_of(
 }
 
 /// What is known of the hart's next step.
-fn outset(alloc: Global, line: &Timeline, hart: Hart) -> Result<Option<Outset>, Memory> {
+fn next_outset(alloc: Global, line: &Timeline, hart: Hart) -> Result<Option<Outset>, Memory> {
     let inputs = inputs_of(alloc, line, hart)?;
     match hart_of(line, hart) {
         Some(state) => Ok(Some(outset_of(alloc, line, state, inputs)?)),
@@ -190,7 +190,7 @@ fn trace_step<W: Sink>(
     hart: Hart,
     out: &mut W,
 ) -> Result<bool, CommandFault> {
-    let Some(before) = outset(alloc, line, hart)? else {
+    let Some(before) = next_outset(alloc, line, hart)? else {
         return Ok(false);
     };
     let is_done = go_forward(line)?;
@@ -220,8 +220,11 @@ fn count_of(line: &Timeline, hart: Hart) -> Count {
     }
 }
 
-/// Goes to the hart's place.
+/// Goes to the hart's place, where the machine has the hart.
 fn go_to(line: &mut Timeline, place: Place) -> Result<(), CommandFault> {
+    if place.hart.number() >= line.harts() {
+        return Err(CommandFault::NoStep(place));
+    }
     match line.go_to_count(place.hart, place.count) {
         Ok(true) => Ok(()),
         Ok(false) => Err(CommandFault::NoStep(place)),

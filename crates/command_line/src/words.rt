@@ -1,5 +1,7 @@
 //! What the words of the command line ask for.
 
+ghost use Rattle.std.specs.Prelude.{◌≤◌, length};
+
 use ft_types::{COUNT_LIMIT, Count, HART_LIMIT, Hart, read_number};
 use log_streams::{Budget, PairOrders, Quorum};
 use std::alloc::Global;
@@ -375,52 +377,55 @@ fn request_of<'a>(
     })
 }
 
-/// The words of a pair before the last one, where that is `warm`: no form has a word that may be left out.
-fn before_warm(words: &[String]) -> Option<&[String]> {
-    let (last, before) = words.split_last()?;
-    let (command, others) = before.split_first()?;
-    if others.len() == 5 && command.as_str() == "pair" && last.as_str() == "warm" {
-        Some(before)
-    } else {
-        None
+/// Whether this word stands there.
+fn is_at(words: &[String], place: usize, text: &str) -> bool {
+    match words.get(place) {
+        Some(word) => word.as_str() == text,
+        None => false,
     }
 }
 
-/// The words before the last three, and these: nothing where that leaves no command, image and log.
-fn last_three(words: &[String]) -> Option<(&[String], [&str; 3])> {
-    let (third, before) = words.split_last()?;
-    let (second, before) = before.split_last()?;
-    let (first, before) = before.split_last()?;
-    if before.len() < 3 {
-        return None;
-    }
-    Some((before, [first.as_str(), second.as_str(), third.as_str()]))
-}
-
-/// The words of a form, and what stands behind them. A log whose name is `at` is no log where it is the third from the end, and one stands before it.
-fn parted<'a>(words: &'a [String]) -> Result<(&'a [String], Tail), WordsFault> {
-    if let Some(before) = before_warm(words) {
-        return Ok((before, Tail::Warm));
-    }
-    let (Some(command), Some((before, [first, second, third]))) = (words.first(), last_three(words))
-    else {
-        return Ok((words, Tail::Nothing));
+/// How many of the words are those of a form: no form has words that may be left out. A log whose name is `at` is no log where it is the third from the end, and one stands before it.
+fn form_length(words: &[String]) -> usize
+    ensures { result ≤ length words.now }
+{
+    let Some(command) = words.first() else {
+        return 0;
     };
+    let many = words.len();
+    let three_before = many.saturating_sub(3);
     match command.as_str() {
-        "trace" => Ok((before, steps_of(first, second, third)?)),
-        "replay" if first == "at" => Ok((before, Tail::At(place_of(second, third)?))),
-        _ => Ok((words, Tail::Nothing)),
+        "pair" if many == 7 && is_at(words, 6, "warm") => 6,
+        "trace" if many >= 6 => three_before,
+        "replay" if many >= 6 && is_at(words, three_before, "at") => three_before,
+        _ => many,
     }
+}
+
+/// What the words behind those of a form say: none, one or three of them.
+fn tail_of(words: &[String]) -> Result<Tail, WordsFault> {
+    let (Some(first), Some(second), Some(third)) = (words.get(0), words.get(1), words.get(2)) else {
+        return Ok(if words.is_empty() {
+            Tail::Nothing
+        } else {
+            Tail::Warm
+        });
+    };
+    if first.as_str() == "at" {
+        return Ok(Tail::At(place_of(second.as_str(), third.as_str())?));
+    }
+    steps_of(first.as_str(), second.as_str(), third.as_str())
 }
 
 /// The request that the words are. A word that begins with `-` is refused before they are parsed.
 pub fn read_words<'a>(alloc: Global, words: &'a [String]) -> Result<Request<'a>, WordsFault> {
-    let (before, tail) = parted(words)?;
+    let end = form_length(words);
+    let tail = tail_of(&words[end..])?;
     let Words {
         name,
         words,
         mut rows,
-    } = read_form(alloc, "workbench", &FORMS, before)?;
+    } = read_form(alloc, "workbench", &FORMS, &words[..end])?;
     match rows.pop() {
         Some(logs) => request_of(name, &words, logs, tail),
         None => request_of(name, &words, Vec::new(alloc), tail),

@@ -190,8 +190,8 @@ fn put_address(text: &mut Vec<u8>, word: u32, distance: u32) -> Result<(), Memor
 }
 
 /// Puts a name, with what orders an atomic operation, and a space behind it where more follows.
-fn put_name(text: &mut Vec<u8>, word: u32, name: &[u8], form: Form) -> Result<(), Memory> {
-    text.extend_from_slice(trimmed(name))?;
+fn put_name(text: &mut Vec<u8>, word: u32, name: [u8; 9], form: Form) -> Result<(), Memory> {
+    text.extend_from_slice(trimmed(&name))?;
     let order: &[u8] = match (form, word >> 25 & 3) {
         (Form::Bare, _) => b"",
         (Form::Atomic, 1) => b".rl ",
@@ -252,9 +252,8 @@ pub fn mnemonic(alloc: Global, pc: u32, word: u32) -> Result<Vec<u8>, Memory> {
     let mut text = Vec::new(alloc);
     match row_of(word) {
         Some(row) if decode(word).is_some() => {
-            let name = row.2;
             let form = row.3;
-            put_name(&mut text, word, &name, form)?;
+            put_name(&mut text, word, row.2, form)?;
             put_registers(&mut text, word, first_registers(form))?;
             put_rest(&mut text, pc, word, form)?;
         }
