@@ -1,8 +1,10 @@
 pub mod Digits
+pub mod Threads
 pub mod Changes
 pub mod Asking
 pub mod Pointing
 pub mod Lines
 pub mod Going
 pub mod Sending
+pub mod Telling
 pub mod Showing

@@ -7,6 +7,7 @@ pub mod Notes
 pub mod Commands
 pub mod Ways
 pub mod Stops
+pub mod Queries
 pub mod Answers
 pub mod Conversations
 pub mod machinery
