@@ -4,8 +4,8 @@ use Rattle.ft_types.specs.Guests.{GuestParts}
 use Rattle.hart_replay.specs.declared.plans.PlannedLeg.{PlannedLeg}
 use Rattle.hart_replay.specs.Leading.{AreAtEnds}
 use Rattle.least_cuts.proofs.Legs.{one_leg}
-use Rattle.moments.specs.Line.{LineView, Standing, IsAtEnd, steps_of}
-use Rattle.moments.specs.machinery.Kept.{IsTimeline}
+use Rattle.plan_lines.specs.Line.{LineView, Standing, IsAtEnd, steps_of}
+use Rattle.plan_lines.specs.machinery.Kept.{IsTimeline}
 use Rattle.moments.proofs.Keeping.{ended_all, none_all}
 use Rattle.moments.proofs.Lines.{line_of, in_no_leg}
 

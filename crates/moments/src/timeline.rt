@@ -9,17 +9,17 @@ ghost use Rattle.guest_image.specs.Machine.{MachineState, boot_machine};
 ghost use Rattle.rv32_hart.specs.Hart.{Hart as HartRecord};
 ghost use Rattle.rv32_hart.specs.Ram.{word_at};
 ghost use Rattle.rv32_hart.specs.Access.{in_ram, page_at, offset_at};
-ghost use Rattle.moments.specs.declared.access.Access.{Access as access_of_specs};
-ghost use Rattle.moments.specs.declared.access.Access.TheVariants as access;
-ghost use Rattle.moments.specs.Points.{IsStepFrom};
+ghost use Rattle.plan_lines.specs.declared.access.Access.{Access as access_of_specs};
+ghost use Rattle.plan_lines.specs.declared.access.Access.TheVariants as access;
+ghost use Rattle.plan_lines.specs.Uses.{IsStepFrom};
 ghost use Rattle.hart_lease.specs.Runs.{counts_of};
 ghost use Rattle.hart_replay.specs.declared.fault.ReplayFault.TheVariants as fault;
 ghost use Rattle.hart_replay.specs.Leading.{AreAtEnds, ComesShort};
-ghost use Rattle.moments.specs.Line.{LineView, Leads, standing_at, InLeg, IsAt, IsAtEnd, IsNext, NoneMayGo, HasGoneOn, ends_of, steps_of as steps_of_legs};
+ghost use Rattle.plan_lines.specs.Line.{LineView, Leads, standing_at, InLeg, IsAt, IsAtEnd, IsNext, NoneMayGo, HasGoneOn, ends_of, steps_of as steps_of_legs};
 ghost use Rattle.moments.specs.machinery.Machines.{machine_of, standing_of};
-ghost use Rattle.moments.specs.machinery.Kept.{IsBegun, IsTurned, OnLine};
+ghost use Rattle.plan_lines.specs.machinery.Kept.{IsBegun, IsTurned, OnLine};
 
-use crate::access::{Access, access_of, place_of};
+use crate::access::{access_of, place_of};
 use crate::machines::SteppedMachine;
 use crate::next::{Stops, next_hart};
 use crate::snapshots::{Snapshot, copied, last_below, nearest, shared};
@@ -28,6 +28,7 @@ use ft_types::{Count, Counts, Hart, Memory, Term, is_same_guest};
 use guest_image::{Image, Machine};
 use hart_replay::{Plan, PlannedLeg, ReplayFault, steps_in};
 use input_log::Input;
+use plan_lines::Access;
 use rv32_hart::{Decoder, HartState};
 use std::alloc::Global;
 use std::marker::Model;
@@ -76,9 +77,9 @@ impl Drop for Timeline {
 
 impl Model for Timeline {
     ghost use Rattle.std.specs.Prelude.{◌≡◌, map};
-    ghost use Rattle.moments.specs.Line.{LineView, steps_of};
+    ghost use Rattle.plan_lines.specs.Line.{LineView, steps_of};
     ghost use Rattle.moments.specs.machinery.Machines.{machine_of, standing_of};
-    ghost use Rattle.moments.specs.machinery.Kept.{IsTimeline};
+    ghost use Rattle.plan_lines.specs.machinery.Kept.{IsTimeline};
 
     ghost Value = { LineView };
 

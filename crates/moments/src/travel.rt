@@ -3,7 +3,7 @@
 ghost use Rattle.std.specs.Prelude.{◌≡◌, ◌<◌, ◌≤◌, ◌+◌, ℕ, IfOk, OnOk, IfSome, IfNone, Some, true, false, length, slice_get};
 ghost use Rattle.guest_image.specs.Machine.{MachineState};
 ghost use Rattle.hart_lease.specs.Runs.{counts_of};
-ghost use Rattle.moments.specs.Line.{IsAt, steps_of, ends_of};
+ghost use Rattle.plan_lines.specs.Line.{IsAt, steps_of, ends_of};
 ghost use Rattle.moments.specs.Points.{BreaksAt, WatchesAt, HoldsAt, HitsAt, IsOne, NoneFrom};
 ghost use Rattle.moments.specs.Stops.{HasStopped, HasStoppedBack, LastHit};
 

@@ -20,12 +20,12 @@ use Rattle.hart_replay.specs.Plans.{IsPlan, log_of}
 use Rattle.hart_replay.specs.Replays.{leg_turns, LegLeads, LegsLead, IsOutcome}
 use Rattle.hart_replay.specs.Leading.{AreAtEnds}
 use Rattle.least_cuts.proofs.Legs.{next_base, first_base, led_more, one_leg}
-use Rattle.moments.specs.Line.{IsNext, Steps, Standing, standing_at, turned, Leads}
-use Rattle.moments.specs.Line.{Begins as BeginsThere, StepsOn, TurnsOn}
-use Rattle.moments.specs.Laws.{EndsAreOutcomes}
-use Rattle.moments.specs.machinery.Kept.{IsBegun}
-use Rattle.moments.proofs.Standings.{holds_at, ended_counts}
-use Rattle.moments.proofs.Cutting.{begun_at_boot}
+use Rattle.plan_lines.specs.Line.{IsNext, Steps, Standing, standing_at, turned, Leads}
+use Rattle.plan_lines.specs.Line.{Begins as BeginsThere, StepsOn, TurnsOn}
+use Rattle.plan_lines.specs.Laws.{EndsAreOutcomes}
+use Rattle.plan_lines.specs.machinery.Kept.{IsBegun}
+use Rattle.plan_lines.proofs.Standings.{holds_at, ended_counts}
+use Rattle.plan_lines.proofs.Cutting.{begun_at_boot}
 
 -- in this order the leg's harts came from the one machine to the other
 pub record ComesAlong (leg : PlannedLeg) (found now : MachineState) (order : List ℕ) : Type 0 where

@@ -21,7 +21,7 @@ use Rattle.rv32_hart.specs.Access.{load_access, store_width, device_step, store_
 use Rattle.rv32_hart.specs.Access.{fetch, unless_interrupted, next_step, is_word_load, is_word_store}
 use Rattle.rv32_hart.specs.Step.{Contents, effect}
 use Rattle.rv32_hart.specs.machinery.CountedSteps.{Leads, StepLeads, effect_leads}
-use Rattle.moments.proofs.Interrupts.{received_pc, received_csrs, received_registers}
+use Rattle.plan_lines.proofs.Interrupts.{received_pc, received_csrs, received_registers}
 
 pub record IsRegular (h : Hart) : Type 0 where
   pub pc : h.pc % 4 ≡ 0

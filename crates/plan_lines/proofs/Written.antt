@@ -33,15 +33,16 @@ use Rattle.hart_lease.specs.Runs.{run_of, counts_of, steps_taken}
 use Rattle.hart_replay.specs.declared.plans.PlannedLeg.{PlannedLeg}
 use Rattle.hart_replay.specs.Plans.{log_of}
 use Rattle.log_audit.proofs.StepAnswers.{there_below}
-use Rattle.moments.specs.declared.access.Access.{Access}
-use Rattle.moments.specs.declared.access.Access.TheVariants.{Nothing, Writes, Changes}
-use Rattle.moments.specs.Line.{Standing, standing_at, turn_in, Leads}
-use Rattle.moments.specs.Line.{Begins, StepsOn, TurnsOn}
-use Rattle.moments.specs.Points.{HasByte, WritesByte, used_at, word_in, used_by, used_by_word, used_in, used_next, unless_interrupted}
-use Rattle.moments.specs.Laws.{WritesAreUsed}
+use Rattle.plan_lines.specs.declared.access.Access.{Access}
+use Rattle.plan_lines.specs.declared.access.Access.TheVariants.{Nothing, Writes, Changes}
+use Rattle.plan_lines.specs.Line.{Standing, standing_at, turn_in, Leads}
+use Rattle.plan_lines.specs.Line.{Begins, StepsOn, TurnsOn}
+use Rattle.plan_lines.specs.Uses.{HasByte, used_at, word_in, used_by, used_by_word, used_in, used_next, unless_interrupted}
+use Rattle.moments.specs.Points.{WritesByte}
+use Rattle.plan_lines.specs.Laws.{WritesAreUsed}
 use Rattle.least_cuts.proofs.Legs.{some_is}
-use Rattle.moments.proofs.Moves.{runs_there}
-use Rattle.moments.proofs.Regular.{IsRegular, same_number, receives, regular_step, regular_booted}
+use Rattle.plan_lines.proofs.Moves.{runs_there}
+use Rattle.plan_lines.proofs.Regular.{IsRegular, same_number, receives, regular_step, regular_booted}
 
 -- the byte at this address, of these pages
 abbrev pub byte_in : List (List ℕ) → ℕ → ℕ

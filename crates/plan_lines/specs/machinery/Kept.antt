@@ -8,7 +8,7 @@ use Rattle.hart_replay.specs.declared.plans.PlannedLeg.{PlannedLeg}
 use Rattle.hart_replay.specs.Plans.{IsPlan}
 use Rattle.hart_replay.specs.Leading.{AreAtEnds}
 use Rattle.log_audit.specs.machinery.Covered.{IsQuietTo}
-use Rattle.moments.specs.Line.{Standing, standing_at, Leads, LineView}
+use Rattle.plan_lines.specs.Line.{Standing, standing_at, Leads, LineView}
 
 -- up to its stop each hart has neither edges nor inputs
 abbrev pub AreQuiet : PlannedLeg → MachineState → List ℕ → Type 0

@@ -1,11 +1,11 @@
 use Rattle.hart_replay.proofs.honesty.Images.{honest_in}
 use Rattle.hart_replay.proofs.honesty.Replays.{at_position}
-use Rattle.moments.specs.Line.{standing_at}
-use Rattle.moments.proofs.Moves.{one_machine}
-use Rattle.moments.proofs.Cutting.{counts_are_cuts}
-use Rattle.moments.proofs.Histories.{ends_are_outcomes}
-use Rattle.moments.proofs.Telling.{moments_tell}
-use Rattle.moments.proofs.laws.honest_moments.Goals as goal
+use Rattle.plan_lines.specs.Line.{standing_at}
+use Rattle.plan_lines.proofs.Moves.{one_machine}
+use Rattle.plan_lines.proofs.Cutting.{counts_are_cuts}
+use Rattle.plan_lines.proofs.Histories.{ends_are_outcomes}
+use Rattle.plan_lines.proofs.Telling.{moments_tell}
+use Rattle.plan_lines.proofs.laws.honest_moments.Goals as goal
 
 pub returns-clause-one : goal.returns-clause-one
 returns-clause-one c legs start moment one other first second =

@@ -1,6 +1,6 @@
-use Rattle.moments.proofs.Written.{writes_are_used}
-use Rattle.moments.proofs.Seen.{reads_are_used}
-use Rattle.moments.proofs.laws.seen_accesses.Goals as goal
+use Rattle.plan_lines.proofs.Written.{writes_are_used}
+use Rattle.plan_lines.proofs.Seen.{reads_are_used}
+use Rattle.plan_lines.proofs.laws.seen_accesses.Goals as goal
 
 pub returns-clause-writes : goal.returns-clause-writes
 returns-clause-writes c = writes_are_used

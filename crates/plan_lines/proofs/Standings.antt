@@ -14,11 +14,11 @@ use Rattle.hart_replay.specs.Plans.{IsLeg, IsPlan, GoOn, log_of}
 use Rattle.hart_replay.specs.Leading.{AreAtEnds}
 use Rattle.hart_replay.proofs.Fronts.{past_all}
 use Rattle.least_cuts.proofs.Legs.{leg_of_all, next_base, first_base, one_leg}
-use Rattle.moments.specs.Line.{IsNext, Steps, Standing, stepped, turned, turn_in, Leads, ends_of, steps_of}
-use Rattle.moments.specs.Line.{Begins, StepsOn, TurnsOn}
-use Rattle.moments.specs.machinery.Kept.{IsBegun}
+use Rattle.plan_lines.specs.Line.{IsNext, Steps, Standing, stepped, turned, turn_in, Leads, ends_of, steps_of}
+use Rattle.plan_lines.specs.Line.{Begins, StepsOn, TurnsOn}
+use Rattle.plan_lines.specs.machinery.Kept.{IsBegun}
 use Rattle.least_cuts.proofs.Sums.{upto, upto_same, upto_less, upto_bump, upto_zero, upto_within, upto_sum, upto_more}
-use Rattle.moments.proofs.Moves.{runs_there}
+use Rattle.plan_lines.proofs.Moves.{runs_there}
 
 -- no leg ends behind the last one
 pub ends_below : (many : ℕ) (now : ℕ → ℕ) (legs : List PlannedLeg) (place : ℕ) (leg : PlannedLeg) → All (IsLeg many) legs → GoOn now legs →

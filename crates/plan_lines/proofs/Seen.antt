@@ -25,14 +25,15 @@ use Rattle.rv32_hart.specs.Step.{bytes_of, access_hart, step_effect, effect}
 use Rattle.guest_image.specs.Machine.{MachineState}
 use Rattle.hart_lease.specs.Runs.{steps_taken}
 use Rattle.hart_replay.specs.Plans.{log_of}
-use Rattle.moments.specs.declared.access.Access.{Access}
-use Rattle.moments.specs.declared.access.Access.TheVariants.{Nothing, Reads, Changes}
-use Rattle.moments.specs.Line.{turn_in}
-use Rattle.moments.specs.Points.{HasByte, ReadsByte, used_at, used_by, used_by_word, used_in, used_next, unless_interrupted}
-use Rattle.moments.specs.Laws.{ReadsAreUsed}
-use Rattle.moments.proofs.Interrupts.{received_pc}
-use Rattle.moments.proofs.Regular.{IsRegular, same_number, receives}
-use Rattle.moments.proofs.Written.{byte_in, from_ram, word_is, steps_to, regular_on}
+use Rattle.plan_lines.specs.declared.access.Access.{Access}
+use Rattle.plan_lines.specs.declared.access.Access.TheVariants.{Nothing, Reads, Changes}
+use Rattle.plan_lines.specs.Line.{turn_in}
+use Rattle.plan_lines.specs.Uses.{HasByte, used_at, used_by, used_by_word, used_in, used_next, unless_interrupted}
+use Rattle.moments.specs.Points.{ReadsByte}
+use Rattle.plan_lines.specs.Laws.{ReadsAreUsed}
+use Rattle.plan_lines.proofs.Interrupts.{received_pc}
+use Rattle.plan_lines.proofs.Regular.{IsRegular, same_number, receives}
+use Rattle.plan_lines.proofs.Written.{byte_in, from_ram, word_is, steps_to, regular_on}
 
 -- the same bytes, so many from an offset on
 abbrev Agree : List ℕ → List ℕ → ℕ → ℕ → Type 0

@@ -11,8 +11,8 @@ use Rattle.hart_replay.specs.Replays.{is_halted}
 use Rattle.hart_replay.specs.Leading.{AreAtEnds}
 use Rattle.hart_replay.proofs.Fronts.{past_all}
 use Rattle.least_cuts.proofs.Legs.{one_leg, some_is}
-use Rattle.moments.specs.Line.{MayGo, IsNext, Steps, Standing, stepped, turned, turn_in, Leads}
-use Rattle.moments.specs.Line.{Begins, StepsOn, TurnsOn}
+use Rattle.plan_lines.specs.Line.{MayGo, IsNext, Steps, Standing, stepped, turned, turn_in, Leads}
+use Rattle.plan_lines.specs.Line.{Begins, StepsOn, TurnsOn}
 
 -- a hart that runs is there
 pub runs_there : (m : MachineState) (hart : ℕ) → is_halted m hart ≡ false → hart < length m.harts

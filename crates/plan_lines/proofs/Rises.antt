@@ -10,11 +10,11 @@ use Rattle.guest_image.specs.Machine.{MachineState}
 use Rattle.hart_lease.specs.Runs.{counts_of, steps_taken}
 use Rattle.hart_replay.specs.declared.plans.PlannedLeg.{PlannedLeg}
 use Rattle.hart_replay.proofs.Fronts.{past_all}
-use Rattle.moments.specs.Line.{LineView, Standing, standing_at, stepped, Leads, IsAt, ends_of, steps_of}
-use Rattle.moments.specs.Line.{Begins, StepsOn, TurnsOn}
-use Rattle.moments.specs.machinery.Kept.{IsBegun}
-use Rattle.moments.proofs.Moves.{along, later, same_moment}
-use Rattle.moments.proofs.Standings.{Holds, holds_at, counts_step, ends_below}
+use Rattle.plan_lines.specs.Line.{LineView, Standing, standing_at, stepped, Leads, IsAt, ends_of, steps_of}
+use Rattle.plan_lines.specs.Line.{Begins, StepsOn, TurnsOn}
+use Rattle.plan_lines.specs.machinery.Kept.{IsBegun}
+use Rattle.plan_lines.proofs.Moves.{along, later, same_moment}
+use Rattle.plan_lines.proofs.Standings.{Holds, holds_at, counts_step, ends_below}
 use Rattle.least_cuts.proofs.Sums.{upto_less, upto_sum, upto_more}
 
 bump_most : (now : ℕ → ℕ) (hart h : ℕ) → bump now hart h ≤ now h + 1

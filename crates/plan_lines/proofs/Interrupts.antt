@@ -8,7 +8,7 @@ use Rattle.rv32_hart.specs.declared.registers.Csrs.{Csrs}
 use Rattle.rv32_hart.specs.Hart.{Hart, mstatus}
 use Rattle.rv32_hart.specs.Csrs.{bit, first_interrupt, interrupt_of, received_all}
 use Rattle.log_audit.proofs.Lists.{take_more}
-use Rattle.moments.specs.machinery.Pending.{bit_of, mip_after}
+use Rattle.plan_lines.specs.machinery.Pending.{bit_of, mip_after}
 
 -- inputs change no CSR but mip
 pub received_csrs : (inputs : List Input) (h : Hart) → (received_all inputs h).csrs ≡ h.csrs

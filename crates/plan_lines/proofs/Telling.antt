@@ -29,9 +29,9 @@ use Rattle.hart_replay.proofs.honesty.Legs.{is_cut, same_start, begins_of_log, l
 use Rattle.hart_replay.proofs.honesty.Plans.{finds_start}
 use Rattle.hart_replay.proofs.honesty.Replays.{boot_pages, legs_keep_pages, lead_from}
 use Rattle.least_cuts.proofs.Legs.{about}
-use Rattle.moments.specs.Laws.{MomentsTellHistories}
-use Rattle.moments.proofs.Cutting.{begun_at_boot}
-use Rattle.moments.proofs.Histories.{ComesAlong, has_come}
+use Rattle.plan_lines.specs.Laws.{MomentsTellHistories}
+use Rattle.plan_lines.proofs.Cutting.{begun_at_boot}
+use Rattle.plan_lines.proofs.Histories.{ComesAlong, has_come}
 
 module _ (image : ImageContents) (history : GuestHistory) (store : StoreView) (position : Position) (rules : IsStore store)
     (honest : IsHonestStore (system_of (hardware image.pages)) (view (hardware image.pages) (boot_machine image)) history store)

@@ -1,6 +1,6 @@
 //! What holds of each line.
 
-ghost use Rattle.moments.specs.Laws.{OneMachine, CountsAreCuts, EndsAreOutcomes, EndsTellHistories, MomentsTellHistories, WritesAreUsed, ReadsAreUsed};
+ghost use Rattle.plan_lines.specs.Laws.{OneMachine, CountsAreCuts, EndsAreOutcomes, EndsTellHistories, MomentsTellHistories, WritesAreUsed, ReadsAreUsed};
 
 /// At each moment of a line there is one machine, whose counts are a closed cut of its leg, and of honest frames it is the history's
 /// there. At the end it is an outcome of the plan, and of honest frames the history's machine at the position.

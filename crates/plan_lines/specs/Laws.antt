@@ -18,9 +18,10 @@ use Rattle.hart_replay.specs.Replays.{IsOutcome}
 use Rattle.hart_replay.specs.Leading.{AreAtEnds}
 use Rattle.hart_replay.specs.Images.{GuestHistory, machine_of, IsHonestStoreOf}
 use Rattle.hart_replay.specs.Laws.{ArePlanned}
-use Rattle.moments.specs.Line.{Standing, standing_at, Leads, IsAt, Steps}
-use Rattle.moments.specs.declared.access.Access.{Access}
-use Rattle.moments.specs.Points.{HasByte, IsStepFrom, ReadsByte, WritesByte}
+use Rattle.plan_lines.specs.Line.{Standing, standing_at, Leads, IsAt, Steps}
+use Rattle.plan_lines.specs.declared.access.Access.{Access}
+use Rattle.plan_lines.specs.Uses.{HasByte, IsStepFrom}
+use Rattle.moments.specs.Points.{ReadsByte, WritesByte}
 
 -- the byte of RAM at this address
 abbrev pub byte_at : MachineState → ℕ → ℕ

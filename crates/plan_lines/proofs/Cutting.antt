@@ -13,12 +13,12 @@ use Rattle.hart_lease.specs.Runs.{counts_of}
 use Rattle.hart_replay.specs.declared.plans.PlannedLeg.{PlannedLeg}
 use Rattle.hart_replay.specs.Plans.{IsPlan, log_of}
 use Rattle.hart_replay.proofs.walking.Outcomes.{boot_so_far, booted_none}
-use Rattle.moments.specs.Line.{IsNext, Steps, Standing, standing_at, Leads}
-use Rattle.moments.specs.Line.{Begins, StepsOn, TurnsOn}
-use Rattle.moments.specs.Laws.{CountsAreCuts}
-use Rattle.moments.specs.machinery.Kept.{IsBegun}
+use Rattle.plan_lines.specs.Line.{IsNext, Steps, Standing, standing_at, Leads}
+use Rattle.plan_lines.specs.Line.{Begins, StepsOn, TurnsOn}
+use Rattle.plan_lines.specs.Laws.{CountsAreCuts}
+use Rattle.plan_lines.specs.machinery.Kept.{IsBegun}
 use Rattle.least_cuts.proofs.Legs.{leg_of_all, next_base, one_leg}
-use Rattle.moments.proofs.Standings.{holds_at, counts_step, ended_counts}
+use Rattle.plan_lines.proofs.Standings.{holds_at, counts_step, ended_counts}
 
 -- a line begins at boot
 pub begun_at_boot : (image : ImageContents) (legs : List PlannedLeg) (m : MachineState) → m ≡ boot_machine image → IsPlan (guest_of image) legs →
