@@ -1,4 +1,4 @@
-//! Terms as ballots: which of them a candidate may stand in, and which are renewals.
+//! Terms as ballots. Which of them a candidate may stand in, and which are renewals.
 #![tactic(auto)]
 
 mod ballots;

@@ -1,4 +1,4 @@
-//! At most one primary of a term ever begins, though nobody knows which terms were begun.
+//! No term begins twice, though nobody knows which were begun.
 #![tactic(auto)]
 
 ghost use Rattle.std.specs.Prelude.{ℕ, Bool};
