@@ -6,3 +6,4 @@ pub mod Lines
 pub mod Going
 pub mod Sending
 pub mod Showing
+pub mod Telling

@@ -10,3 +10,4 @@ pub mod Stops
 pub mod Answers
 pub mod Conversations
 pub mod machinery
+pub mod Monitor
