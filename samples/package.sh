@@ -24,7 +24,7 @@ put() {
         done
     done
 }
-put bash dirname mktemp rm mkfifo od tr cat
+put bash dirname mktemp rm mkfifo od tr cat grep
 mkdir -p "$root/tmp" "$root/dev" "$root/var/lib/dpkg/info" "$root/var/lib/dpkg/updates"
 touch "$root/var/lib/dpkg/status" "$root/dev/urandom" "$root/dev/null"
 dpkg --root="$root" --force-depends --force-script-chrootless -i "$work"/wazhilom_*.deb > "$work/said" 2>&1 || { cat "$work/said"; exit 1; }

@@ -2,7 +2,7 @@
 # pair.sh [LIVE [GUEST]]: three keepers, a primary and a client, each a process of its own, over FIFOs. The primary is killed, the next one goes live from what two
 # keepers hand over, and goes on. LIVE is the built program, by itself the one that `rt run` leaves; where there is none, it is built first, without a proof. GUEST is
 # `service`, which is asked words, `lua` or `sqlite` (guests/README.md), which are asked lines, or `race`. IMAGE is another image of the guest, and LOGS a folder to which the
-# keepers' logs are copied at the end. Needs bash, GNU od and mkfifo.
+# keepers' logs are copied at the end. Needs bash, grep, GNU od and mkfifo.
 set -eu
 top=$(cd "$(dirname "$0")/../.." && pwd)
 live=${1:-$top/crates/live/out/live}

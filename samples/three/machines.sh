@@ -68,7 +68,7 @@ off() {
 # back M: the line of machine M is up again.
 back() { ip -n "$net.$1" link set eth up; }
 
-# on M WORDS..: three.sh as it is typed on machine M; started M WORDS..: without waiting for its end.
+# on M WORDS..: three.sh as it is typed on machine M; started M WORDS..: without waiting for its end, and without the shell's word that it was killed.
 on() {
     local m=$1
     shift
@@ -76,7 +76,7 @@ on() {
     ip netns exec "$net.$m" bash "$top/samples/three/three.sh" "$work/$m.conf" "$@" 2>> "$work/told"
 }
 started() {
-    on "$@" &
+    on "$@" 2> /dev/null &
     disown
 }
 

@@ -112,7 +112,7 @@ is 'a long answer' "$(seq 2000 2999; echo ok)" "$(lines 'with recursive c(n) as 
 
 # The door, or a connection of it, is lost while lines are under way.
 for round in $(seq "$rounds"); do
-    for c in 1 2 3; do inserts "$round${c}01" "$round${c}40" | asked > "$work/answers.$c" & done
+    for c in 1 2 3; do inserts "$round${c}01" "$round${c}40" | asked > "$work/answers.$c" 2> /dev/null & done
     sleep "$((RANDOM % 3)).$((RANDOM % 10))"
     began=$(now)
     lose "$((round % 3))"

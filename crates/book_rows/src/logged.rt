@@ -7,8 +7,8 @@ use crate::come::{Come, frame_of, guest_of};
 use fixtures::guest_with;
 use ft_types::{Count, Guest, Keeper, Term, first_line};
 use stations::{
-    FenceFault, FencedLog, FilesFault, HandedOver, KeeperFiles, KeeperStation, WrittenFeed,
-    WrittenFrame, fence_off, handshake, is_of, read_frames,
+    FenceFault, FencedLog, FilesFault, HandedOver, KeeperFiles, KeeperStation, TERM_REACH,
+    WrittenFeed, WrittenFrame, fence_off, handshake, is_of, read_frames,
 };
 use std::alloc::Global;
 use std::result::Result;
@@ -87,17 +87,27 @@ fn log(alloc: Global, station: KeeperStation, shelf: &mut Shelf) -> Result<Told,
     }
 }
 
+/// A frame, and its bytes.
+fn written(alloc: Global, come: &Come) -> Result<WrittenFrame, Fail> {
+    let frame = frame_of(alloc, guest_of(1), come)?;
+    Ok(WrittenFrame::write(alloc, frame)?)
+}
+
+/// Whether the frame is far for the keeper.
+fn is_far(alloc: Global, station: &KeeperStation, come: &Come) -> Result<bool, Fail> {
+    Ok(station.is_far(&written(alloc, come)?))
+}
+
 /// A keeper begins, takes these frames, logs them, acknowledges, and is killed.
 fn keep(alloc: Global, shelf: &mut Shelf, comes: &[Come]) -> Result<Told, Fail> {
     let mut station = begin(alloc, shelf)?;
     for come in comes {
-        let frame = frame_of(alloc, guest_of(1), come)?;
-        let _put = station.take(alloc, WrittenFrame::write(alloc, frame)?)?;
+        let _put = station.take(alloc, written(alloc, come)?)?;
     }
     log(alloc, station, shelf)
 }
 
-/// What is left of a log, and what was handed over, with how many frames of the guest; none where it is fenced off for a later term.
+/// What is left of a log, and what was handed over, with how many frames of the guest; none where its last fence is not below the term, or out of reach.
 type Left = (Shelf, Option<(Handed, usize)>);
 
 /// A log is handed over to a term.
@@ -105,7 +115,7 @@ fn hand(alloc: Global, shelf: Shelf, term: Term) -> Result<Left, Fail> {
     match fence_off(alloc, shelf, term) {
         Ok(fenced) => handed(alloc, fenced),
         Err(refused) => match refused.fault {
-            FenceFault::Fenced(_) => Ok((refused.files, None)),
+            FenceFault::Fenced(_) | FenceFault::Far(_) => Ok((refused.files, None)),
             FenceFault::Files(_) => Err("the fence is put")?,
         },
     }
@@ -189,6 +199,67 @@ fn is_handed_once(alloc: Global, mut shelf: Shelf) -> Result<bool, Fail> {
     Ok(before && is_once && are_acknowledged(alloc, &mut shelf, &BEHIND)?)
 }
 
+/// Terms for which a log is fenced off, one behind the other, and whether it is.
+static REACHED: [(Term, bool); 7] = [
+    (u32::MAX, false),
+    (TERM_REACH + 1, false),
+    (TERM_REACH, true),
+    (2 * TERM_REACH + 1, false),
+    (2 * TERM_REACH, true),
+    (2 * TERM_REACH, false),
+    (2 * TERM_REACH + 1, true),
+];
+
+/// Whether a log is handed over to each of these terms, or not, and then has the last fence that was put.
+fn is_handed_in_reach(alloc: Global, mut shelf: Shelf) -> Result<bool, Fail> {
+    let mut last = 0;
+    for (term, is_handed) in &REACHED {
+        let (left, given) = hand(alloc, shelf, *term)?;
+        shelf = left;
+        if *is_handed {
+            last = *term;
+        }
+        if given.is_some() != *is_handed || shelf.fence != last {
+            return Ok(false);
+        }
+    }
+    Ok(true)
+}
+
+/// Frames, and whether each is far for a keeper that led to term 1 and saw the fence 5.
+static FAR: [(Come, bool); 5] = [
+    (Come::Opening(u32::MAX, 0, &[0]), true),
+    (Come::Opening(TERM_REACH + 6, 5, &[0]), true),
+    (Come::Opening(TERM_REACH + 5, 0, &[0]), false),
+    (Come::Opening(2, 1, &[6]), false),
+    (Come::Piece(u32::MAX, 0, 0, 0, 4, &[]), false),
+];
+
+/// The opening of a term with no parent.
+fn rooted(term: Term) -> Come {
+    Come::Opening(term, 0, &[0])
+}
+
+/// Whether a keeper that has no log or fence, one that led to term 1, and one that saw the fence 5 besides, each know how far terms reach.
+fn is_far_behind(alloc: Global, shelf: &mut Shelf) -> Result<bool, Fail> {
+    let mut station = begin(alloc, shelf)?;
+    let nothing = is_far(alloc, &station, &rooted(TERM_REACH + 1))?
+        && !is_far(alloc, &station, &rooted(TERM_REACH))?;
+    let _put = station.take(alloc, written(alloc, &OPENING)?)?;
+    let led = is_far(alloc, &station, &rooted(TERM_REACH + 2))?
+        && !is_far(alloc, &station, &rooted(TERM_REACH + 1))?;
+    shelf.fence = 5;
+    let Ok((station, _said)) = station.log_and_acknowledge(alloc, shelf) else {
+        return Err("the log takes it".into());
+    };
+    for (come, far) in &FAR {
+        if is_far(alloc, &station, come)? != *far {
+            return Ok(false);
+        }
+    }
+    Ok(nothing && led)
+}
+
 /// Whether a keeper that saw the fence 2 acknowledges nothing of term 1, also where its file of fences is gone.
 fn is_remembered(alloc: Global, shelf: &mut Shelf) -> Result<bool, Fail> {
     shelf.fence = 2;
@@ -222,6 +293,9 @@ fn what_a_log_keeps_is_handed_over(rt: HostRuntime) -> Result<(), Fail> {
     let mut shelf = empty_shelf(rt.alloc());
     assert!(rt; are_acknowledged(rt.alloc(), &mut shelf, &BEFORE)?);
     assert!(rt; is_remembered(rt.alloc(), &mut shelf)?);
+    assert!(rt; is_handed_in_reach(rt.alloc(), empty_shelf(rt.alloc()))?);
+    let mut shelf = empty_shelf(rt.alloc());
+    assert!(rt; is_far_behind(rt.alloc(), &mut shelf)?);
     Ok(())
 }
 

@@ -13,9 +13,9 @@ use crate::faults::{CommandFault, replayed, written};
 use crate::words::Place;
 use ft_types::{Sink, Source};
 use guest_image::{Image, Machine};
+use least_cuts::machine_at;
 use log_join::Store;
 use log_streams::read_store;
-use moments::machine_at;
 use std::alloc::Global;
 
 /// The machine at the least closed cut of the store's plan that has so many steps of the hart.

@@ -4,6 +4,8 @@ use Rattle.std.specs.Prelude.{codes}
 use Rattle.std.proofs.lemmas.Bool.Decides.{nat_tests}
 use Rattle.debugging.specs.declared.commands.Command.{Command}
 use Rattle.debugging.specs.declared.commands.Command.TheVariants as command
+use Rattle.debugging.specs.declared.commands.Other.{Other}
+use Rattle.debugging.specs.declared.commands.Other.TheVariants as other
 use Rattle.debugging.specs.declared.commands.Show.TheVariants as show
 use Rattle.debugging.specs.declared.commands.Note.TheVariants as note
 use Rattle.debugging.specs.declared.commands.Way.TheVariants as way
@@ -34,13 +36,6 @@ action_parts kind action front behind named other p cut (inl is) =
     (whole.0 ∙ is.0, whole.1 ∙ sym is.1)
 action_parts kind action front behind named other p cut (inr is) = cut_is 58 action front behind (kind ∷ []) named p cut (other, tt) is
 
--- the thread that is read is the one that the text names
-pub thread_is : (text named : List ℕ) (read t : Thread) → text ≡ named → ((n : ℕ) → IsHex text n → 0 < n → read ≡ thread.Number n) → (text ≡ [] → read ≡ thread.Any) →
-    IsThread named t → read ≡ t
-thread_is text named read thread.Any same number any is = any (same ∙ is)
-thread_is text named read (thread.Number n) same number any is = number n (subst (λ (t : List ℕ). IsHex t n) (sym same) is.1) is.0
-thread_is text named read thread.Wrong same number any is = absurd is
-
 -- behind `vCont` stand the actions
 pub long_parts : (packet front behind : List ℕ) (kind : ℕ) (named : List ℕ) → HasNone 59 front →
     (packet ≡ front ++ 59 ∷ behind) ⊎ ((packet ≡ front) × (behind ≡ [])) → AsksForAction packet kind named →
@@ -67,7 +62,7 @@ Opens (command.Show shown) kind = kind == 63 || kind == 103 || kind == 112 || ki
 Opens command.Change kind = kind == 71 || kind == 80 || kind == 77 || kind == 88
 Opens (command.Note noted) kind = kind == 72 || kind == 84 || kind == 90 || kind == 122
 Opens (command.Go w t) kind = kind == 115 || kind == 99 || kind == 98 || kind == 118
-Opens (command.Other other) kind = false
+Opens (command.Other rest) kind = kind == 113 || kind == 81 || kind == 68 || kind == 107
 
 -- a packet that asks for the command, by its first byte
 abbrev HasOpening : List ℕ → Command → Type 0
@@ -89,7 +84,12 @@ opened packet (command.Go way.Continue t) (inl asks, none) = (99, [], asks, refl
 opened packet (command.Go way.Continue t) (inr asks, none) = (118, _, asks.1.2, refl)
 opened packet (command.Go way.StepBack t) asks = (98, _, asks.0, refl)
 opened packet (command.Go way.ContinueBack t) asks = (98, _, asks.0, refl)
-opened packet (command.Other other) asks = absurd asks
+opened packet (command.Other other.Query) (kind, rest, inl is, asks) = (kind, rest, asks, subst (λ (k : ℕ). Opens (command.Other other.Query) k ≡ true) (sym is) refl)
+opened packet (command.Other other.Query) (kind, rest, inr is, asks) = (kind, rest, asks, subst (λ (k : ℕ). Opens (command.Other other.Query) k ≡ true) (sym is) refl)
+opened packet (command.Other other.Detach) asks = (68, [], asks, refl)
+opened packet (command.Other other.Kill) asks = (107, [], asks, refl)
+opened packet (command.Other other.Wrong) asks = absurd asks
+opened packet (command.Other other.Unknown) asks = absurd asks
 
 -- so does this one
 opens : (packet : List ℕ) (kind : ℕ) (rest : List ℕ) (c : Command) → packet ≡ kind ∷ rest → AsksFor packet c → Opens c kind ≡ true
@@ -110,7 +110,9 @@ change_asked packet kind rest (command.Note noted) is changes asks =
 change_asked packet kind rest (command.Go w t) is changes asks =
     let o : (kind == 115 || kind == 99 || kind == 98 || kind == 118) ≡ true = opens packet kind rest (command.Go w t) is asks in
     absurd (grind (arith, nat_tests))
-change_asked packet kind rest (command.Other other) is changes asks = absurd asks
+change_asked packet kind rest (command.Other another) is changes asks =
+    let o : (kind == 113 || kind == 81 || kind == 68 || kind == 107) ≡ true = opens packet kind rest (command.Other another) is asks in
+    absurd (grind (arith, nat_tests))
 
 -- what shows registers or memory is read behind its first byte
 pub show_asked : (packet : List ℕ) (kind : ℕ) (rest : List ℕ) (c d : Command) → packet ≡ kind ∷ rest → (kind == 63 || kind == 103 || kind == 112 || kind == 109) ≡ true →
@@ -135,7 +137,9 @@ show_asked packet kind rest (command.Note noted) d is shows why registers regist
 show_asked packet kind rest (command.Go w t) d is shows why registers register memory asks =
     let o : (kind == 115 || kind == 99 || kind == 98 || kind == 118) ≡ true = opens packet kind rest (command.Go w t) is asks in
     absurd (grind (arith, nat_tests))
-show_asked packet kind rest (command.Other other) d is shows why registers register memory asks = absurd asks
+show_asked packet kind rest (command.Other another) d is shows why registers register memory asks =
+    let o : (kind == 113 || kind == 81 || kind == 68 || kind == 107) ≡ true = opens packet kind rest (command.Other another) is asks in
+    absurd (grind (arith, nat_tests))
 
 -- what is noted is read behind the first byte
 pub note_asked : (packet : List ℕ) (kind : ℕ) (rest : List ℕ) (c d : Command) → packet ≡ kind ∷ rest →
@@ -160,21 +164,47 @@ note_asked packet kind rest (command.Note (note.Remove point)) d is notes choose
 note_asked packet kind rest (command.Go w t) d is notes choose there insert remove asks =
     let o : (kind == 115 || kind == 99 || kind == 98 || kind == 118) ≡ true = opens packet kind rest (command.Go w t) is asks in
     absurd (grind (arith, nat_tests))
-note_asked packet kind rest (command.Other other) d is notes choose there insert remove asks = absurd asks
+note_asked packet kind rest (command.Other another) d is notes choose there insert remove asks =
+    let o : (kind == 113 || kind == 81 || kind == 68 || kind == 107) ≡ true = opens packet kind rest (command.Other another) is asks in
+    absurd (grind (arith, nat_tests))
+
+-- what is a query or ends the session asks for that
+pub other_asked : (packet : List ℕ) (kind : ℕ) (rest : List ℕ) (c : Command) (d : Other) → packet ≡ kind ∷ rest →
+    (kind == 113 || kind == 81 || kind == 68 || kind == 107) ≡ true → ((kind ≡ 113) ⊎ (kind ≡ 81) → d ≡ other.Query) → (kind ≡ 68 → d ≡ other.Detach) →
+    (kind ≡ 107 → d ≡ other.Kill) → AsksFor packet c → command.Other d ≡ c
+other_asked packet kind rest (command.Other other.Query) d is others query detach kill (first, behind, which, asks) =
+    let same : first ≡ kind = cc in ap command.Other (query (subst (λ (k : ℕ). (k ≡ 113) ⊎ (k ≡ 81)) same which))
+other_asked packet kind rest (command.Other other.Detach) d is others query detach kill asks = let first : kind ≡ 68 = cc in ap command.Other (detach first)
+other_asked packet kind rest (command.Other other.Kill) d is others query detach kill asks = let first : kind ≡ 107 = cc in ap command.Other (kill first)
+other_asked packet kind rest (command.Other other.Wrong) d is others query detach kill asks = absurd asks
+other_asked packet kind rest (command.Other other.Unknown) d is others query detach kill asks = absurd asks
+other_asked packet kind rest command.Change d is others query detach kill asks =
+    let o : (kind == 71 || kind == 80 || kind == 77 || kind == 88) ≡ true = opens packet kind rest command.Change is asks in
+    absurd (grind (arith, nat_tests))
+other_asked packet kind rest (command.Show shown) d is others query detach kill asks =
+    let o : (kind == 63 || kind == 103 || kind == 112 || kind == 109) ≡ true = opens packet kind rest (command.Show shown) is asks in
+    absurd (grind (arith, nat_tests))
+other_asked packet kind rest (command.Note noted) d is others query detach kill asks =
+    let o : (kind == 72 || kind == 84 || kind == 90 || kind == 122) ≡ true = opens packet kind rest (command.Note noted) is asks in
+    absurd (grind (arith, nat_tests))
+other_asked packet kind rest (command.Go w t) d is others query detach kill asks =
+    let o : (kind == 115 || kind == 99 || kind == 98 || kind == 118) ≡ true = opens packet kind rest (command.Go w t) is asks in
+    absurd (grind (arith, nat_tests))
 
 -- and any other packet goes somewhere
 pub rest_asked : (packet : List ℕ) (kind : ℕ) (rest : List ℕ) (c d : Command) → packet ≡ kind ∷ rest →
     (kind == 71 || kind == 80 || kind == 77 || kind == 88) ≡ false → (kind == 63 || kind == 103 || kind == 112 || kind == 109) ≡ false →
-    (kind == 72 || kind == 84 || kind == 90 || kind == 122) ≡ false →
+    (kind == 72 || kind == 84 || kind == 90 || kind == 122) ≡ false → (kind == 113 || kind == 81 || kind == 68 || kind == 107) ≡ false →
     ((w : Way) (t : Thread) → AsksToGo packet w t → d ≡ command.Go w t) → AsksFor packet c → d ≡ c
-rest_asked packet kind rest (command.Show shown) d is changes shows notes goes asks =
+rest_asked packet kind rest (command.Show shown) d is changes shows notes others goes asks =
     let o = opens packet kind rest (command.Show shown) is asks in absurd cc
-rest_asked packet kind rest command.Change d is changes shows notes goes asks =
+rest_asked packet kind rest command.Change d is changes shows notes others goes asks =
     let o = opens packet kind rest command.Change is asks in absurd cc
-rest_asked packet kind rest (command.Note noted) d is changes shows notes goes asks =
+rest_asked packet kind rest (command.Note noted) d is changes shows notes others goes asks =
     let o = opens packet kind rest (command.Note noted) is asks in absurd cc
-rest_asked packet kind rest (command.Go w t) d is changes shows notes goes asks = goes w t asks
-rest_asked packet kind rest (command.Other other) d is changes shows notes goes asks = absurd asks
+rest_asked packet kind rest (command.Go w t) d is changes shows notes others goes asks = goes w t asks
+rest_asked packet kind rest (command.Other another) d is changes shows notes others goes asks =
+    let o = opens packet kind rest (command.Other another) is asks in absurd cc
 
 -- ---- ways
 

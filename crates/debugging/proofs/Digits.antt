@@ -19,6 +19,25 @@ pub read_is : (text digits : List ℕ) (read : Option ℕ) → digits ≡ replic
 read_is text digits (Some m) is found none n hex = ap Some (hex_read text digits n m is found hex)
 read_is text digits None is found none n hex = absurd (hex_not_read text digits n is none hex)
 
+-- ---- fronts
+
+-- as many bytes of the text are its front
+pub front_is : (front rest head tail : List ℕ) → length head ≡ length front → head ++ tail ≡ front ++ rest → head ≡ front
+front_is [] rest [] tail few is = refl
+front_is [] rest (y ∷ ys) tail few is = absurd (omega (arith, few))
+front_is (x ∷ xs) rest [] tail few is = absurd (omega (arith, few))
+front_is (x ∷ xs) rest (y ∷ ys) tail few is =
+    let heads : y ≡ x = cc in
+    let tails : ys ++ tail ≡ xs ++ rest = cc in
+    rw (heads, front_is xs rest ys tail (omega (arith, few)) tails) refl
+
+-- what is longer than the text is not
+pub front_longer : (text front rest : List ℕ) → length text < length front → text ≡ front ++ rest → ⊥
+front_longer text [] rest less is = omega (arith, less)
+front_longer [] (x ∷ xs) rest less is = absurd cc
+front_longer (t ∷ ts) (x ∷ xs) rest less is =
+    let tails : ts ≡ xs ++ rest = cc in front_longer ts xs rest (omega (arith, less)) tails
+
 -- ---- cuts
 
 -- one more byte that is another one

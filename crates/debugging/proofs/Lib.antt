@@ -1,9 +1,11 @@
 pub mod Digits
+pub mod Threads
 pub mod Changes
 pub mod Asking
 pub mod Pointing
 pub mod Lines
 pub mod Going
 pub mod Sending
-pub mod Showing
 pub mod Telling
+pub mod Showing
+pub mod Reporting

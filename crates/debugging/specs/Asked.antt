@@ -18,9 +18,9 @@ pub record IsHex (text : List ℕ) (n : ℕ) : Type 0 where
   pub digits : replicate (8 - length text) 48 ++ text ≡ word n
   pub below : n < 2 ^ 32
 
--- the text names the thread: by a number from 1 on, or not at all
+-- the text names the thread: by a number from 1 on; by 0, `-1` or nothing it names any, or every one
 abbrev pub IsThread : List ℕ → Thread → Type 0
-IsThread text Any = text ≡ []
+IsThread text Any = (text ≡ []) ⊎ IsHex text 0 ⊎ (text ≡ codes "-1")
 IsThread text (Number n) = (0 < n) × IsHex text n
 IsThread text Wrong = ⊥
 
@@ -28,6 +28,10 @@ IsThread text Wrong = ⊥
 abbrev pub IsOfHart : ℕ → Thread → ℕ → Type 0
 IsOfHart harts (Number n) hart = (n ≡ hart + 1) × (hart < harts)
 IsOfHart harts _ hart = ⊥
+
+-- it is that of none of them
+abbrev pub IsOfNone : ℕ → Thread → Type 0
+IsOfNone harts thread = (hart : ℕ) → IsOfHart harts thread hart → ⊥
 
 -- `G`, `P`, `M` and `X`: the past would be another
 abbrev pub AsksForAnother : List ℕ → Type 0

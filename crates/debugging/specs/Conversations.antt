@@ -65,13 +65,16 @@ Hears event.Again c d said = (d ≡ c) × (said ≡ c.last)
 Hears event.Heard c d said = (d ≡ c) × (said ≡ [])
 Hears event.Interrupt c d said = (d ≡ c) × (said ≡ [])
 
--- what is said to all of these, one behind another; nothing once gdb has gone
+-- the same until gdb has gone; then nothing is said
+pub record HearsNext (e : Event) (c d : ConversationView) (said : List ℕ) : Type 0 where
+  pub there : c.is_over ≡ false → Hears e c d said
+  pub gone : c.is_over ≡ true → (d ≡ c) × (said ≡ [])
+
+-- what is said to all of these, one behind another
 pub data Talks (c : ConversationView) : List Event → ConversationView → List ℕ → Type 0 where
   Begins : Talks c [] c []
-  Goes : {events : List Event} {d : ConversationView} {said : List ℕ} (e : Event) (next : ConversationView) (more : List ℕ) → Talks c events d said →
-      d.is_over ≡ false → Hears e d next more → Talks c (events ++ e ∷ []) next (said ++ more)
-  IsGone : {events : List Event} {d : ConversationView} {said : List ℕ} (e : Event) → Talks c events d said → d.is_over ≡ true →
-      Talks c (events ++ e ∷ []) d said
+  GoesOn : {events : List Event} {d : ConversationView} {said : List ℕ} (e : Event) (next : ConversationView) (more : List ℕ) → Talks c events d said →
+      HearsNext e d next more → Talks c (events ++ e ∷ []) next (said ++ more)
 
 -- the next piece of a stream, of which these events were given, has come, and this is said to what it completes
 pub record HasHeard (stream : List ℕ) (given : List Event) (piece : List ℕ) (b c : DialogueView) (said : List ℕ) : Type 0 where

@@ -7,7 +7,8 @@ pub mod Notes
 pub mod Commands
 pub mod Ways
 pub mod Stops
+pub mod Queries
+pub mod Monitor
 pub mod Answers
 pub mod Conversations
 pub mod machinery
-pub mod Monitor

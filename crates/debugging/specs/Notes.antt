@@ -1,9 +1,11 @@
 -- What a session notes: points, and the harts of which more is asked or that are led.
-use Rattle.std.specs.Prelude.{◌≡◌, ℕ, Bool, true, if◌then◌else◌, List, [], ◌∷◌, length, codes}
+use Rattle.std.specs.Prelude.{◌≡◌, ℕ, Bool, true, false, if◌then◌else◌, List, [], ◌∷◌, length, codes}
 use Rattle.moments.specs.declared.points.Point.{Point}
+use Rattle.debugging.specs.declared.numbers.Thread.{Thread}
+use Rattle.debugging.specs.declared.numbers.Thread.TheVariants.{Any}
 use Rattle.debugging.specs.declared.commands.Note.{Note}
 use Rattle.debugging.specs.declared.commands.Note.TheVariants.{Choose, IsThere, Insert, Remove}
-use Rattle.debugging.specs.Asked.{IsThread, IsOfHart}
+use Rattle.debugging.specs.Asked.{IsThread, IsOfHart, IsOfNone}
 use Rattle.debugging.specs.Points.{IsPoint, points_with, points_without, has_room}
 use Rattle.debugging.specs.Sessions.{SessionView}
 
@@ -22,15 +24,23 @@ with_led s hart = record { line = s.line; shown = s.shown; led = hart; points = 
 abbrev pub with_points : SessionView → List Point → SessionView
 with_points s points = record { line = s.line; shown = s.shown; led = s.led; points = points }
 
--- of the thread's hart more is asked where the kind is `g`, and it is led where it is `c`
-abbrev pub HasChosen : ℕ → ℕ → SessionView → SessionView → Bool → Type 0
-HasChosen kind hart s t is_right =
-    (kind ≡ 103 → (is_right ≡ true) × (t ≡ with_shown s hart)) × (kind ≡ 99 → (is_right ≡ true) × (t ≡ with_led s hart))
+-- of the thread's hart more is asked where the kind is `g`, and it is led where it is `c`; of another kind it is not
+pub record HasChosen (kind hart : ℕ) (s t : SessionView) (is_right : Bool) : Type 0 where
+  pub shown : kind ≡ 103 → (is_right ≡ true) × (t ≡ with_shown s hart)
+  pub led : kind ≡ 99 → (is_right ≡ true) × (t ≡ with_led s hart)
+  pub other : (kind ≡ 103 → ⊥) → (kind ≡ 99 → ⊥) → (is_right ≡ false) × (t ≡ s)
+
+abbrev pub is_any : Thread → Bool
+is_any Any = true
+is_any _ = false
 
 -- it was noted, and was right or not
 abbrev pub HasNoted : Note → SessionView → SessionView → Bool → Type 0
-HasNoted (Choose kind thread) s t is_right = (hart : ℕ) → IsOfHart (harts_of s) thread hart → HasChosen kind hart s t is_right
-HasNoted (IsThere thread) s t is_right = (t ≡ s) × ((hart : ℕ) → IsOfHart (harts_of s) thread hart → is_right ≡ true)
+HasNoted (Choose kind thread) s t is_right =
+    ((hart : ℕ) → IsOfHart (harts_of s) thread hart → HasChosen kind hart s t is_right) ×
+    (IsOfNone (harts_of s) thread → (is_right ≡ is_any thread) × (t ≡ s))
+HasNoted (IsThere thread) s t is_right =
+    (t ≡ s) × ((hart : ℕ) → IsOfHart (harts_of s) thread hart → is_right ≡ true) × (IsOfNone (harts_of s) thread → is_right ≡ false)
 HasNoted (Insert point) s t is_right = (is_right ≡ has_room point s.points) × (t ≡ with_points s (points_with point s.points))
 HasNoted (Remove point) s t is_right = (is_right ≡ true) × (t ≡ with_points s (points_without point s.points))
 

@@ -15,8 +15,7 @@ use Rattle.debugging.specs.declared.stops.Reason.TheVariants.{Led, Point as AtPo
 use Rattle.debugging.specs.declared.runs.Arrival.{Arrival}
 use Rattle.debugging.specs.Sessions.{SessionView, IsFirstWith, IsBeforeStep}
 use Rattle.debugging.specs.declared.numbers.Thread.{Thread}
-use Rattle.debugging.specs.declared.numbers.Thread.TheVariants.{Any}
-use Rattle.debugging.specs.Asked.{IsOfHart}
+use Rattle.debugging.specs.Asked.{IsOfHart, IsOfNone}
 use Rattle.debugging.specs.Stops.{stop_text}
 
 -- ---- one step
@@ -91,9 +90,9 @@ Goes StepBack points hart b c a = HasSteppedBack b c hart a
 Goes Continue points hart b c a = HasContinued points hart b c a
 Goes ContinueBack points hart b c a = HasContinuedBack points hart b c a
 
--- the hart of the thread; where it is any thread, the one that was led last
+-- the hart of the thread; where it has none, the one that was led last
 abbrev pub IsLed : SessionView → Thread → ℕ → Type 0
-IsLed s thread hart = IsOfHart (length s.line.stands.machine.harts) thread hart ⊎ ((thread ≡ Any) × (hart ≡ s.led))
+IsLed s thread hart = IsOfHart (length s.line.stands.machine.harts) thread hart ⊎ (IsOfNone (length s.line.stands.machine.harts) thread × (hart ≡ s.led))
 
 -- the session has gone the way: of the hart at which it arrived more is asked, and that is led; the text says why it stands there
 abbrev pub HasGone : SessionView → SessionView → Way → ℕ → List ℕ → Type 0

@@ -1,6 +1,6 @@
 //! What packets ask for.
 
-ghost use Rattle.std.specs.Prelude.{◌≡◌, ◌==◌, ◌||◌, ℕ, List, [], ◌∷◌, None, Some, codes};
+ghost use Rattle.std.specs.Prelude.{◌≡◌, ◌⊎◌, ◌==◌, ◌||◌, ℕ, List, [], ◌∷◌, None, Some, codes};
 ghost use Rattle.moments.specs.declared.points.Point.{Point as PointOf};
 ghost use Rattle.debugging.specs.declared.numbers.Thread.{Thread as ThreadOf};
 ghost use Rattle.debugging.specs.declared.numbers.Thread.TheVariants as Thread;
@@ -9,6 +9,7 @@ ghost use Rattle.debugging.specs.declared.commands.Note.{Note as NoteOf};
 ghost use Rattle.debugging.specs.declared.commands.Note.TheVariants as Note;
 ghost use Rattle.debugging.specs.declared.commands.Way.TheVariants as Way;
 ghost use Rattle.debugging.specs.declared.commands.Command.TheVariants as Command;
+ghost use Rattle.debugging.specs.declared.commands.Other.TheVariants as Other;
 ghost use Rattle.debugging.specs.declared.commands.Show.TheVariants as Show;
 ghost use Rattle.debugging.specs.declared.commands.Command.{Command as CommandOf};
 ghost use Rattle.debugging.specs.Commands.{AsksFor};
@@ -60,9 +61,9 @@ pub(crate) enum Note {
 
 /// What else a packet asks for.
 #[derive(Clone, Copy)]
-pub(crate) enum Other<'a> {
-    /// `q..`, `Q..`, `v..`.
-    Query(&'a [u8]),
+pub(crate) enum Other {
+    /// `q..`, `Q..`, and `v..` where it is no `vCont;..`.
+    Query,
     /// `D`.
     Detach,
     /// `k`.
@@ -75,7 +76,7 @@ pub(crate) enum Other<'a> {
 
 /// What a packet asks for.
 #[derive(Clone, Copy)]
-pub(crate) enum Command<'a> {
+pub(crate) enum Command {
     /// That something is shown.
     Show(Show),
     /// `G`, `P`, `M`, `X`, and whatever else would change the past.
@@ -85,11 +86,11 @@ pub(crate) enum Command<'a> {
     /// A way to go, and the thread that goes it.
     Go(Way, Thread),
     /// Anything else.
-    Other(Other<'a>),
+    Other(Other),
 }
 
 /// What an action of `vCont` of this kind asks for, of any thread or of this one.
-fn read_action(kind: &[u8], thread: Thread) -> Command<'static>
+fn read_action(kind: &[u8], thread: Thread) -> Command
     ensures step { kind.now ≡ codes "s" → result ≡ Command.Go Way.Step thread }
     ensures on { kind.now ≡ codes "c" → result ≡ Command.Go Way.Continue Thread.Any }
 {
@@ -103,7 +104,7 @@ fn read_action(kind: &[u8], thread: Thread) -> Command<'static>
 }
 
 /// The same of an action with a signal, which says nothing here.
-fn read_signalled(kind: &[u8], thread: Thread) -> Command<'static> {
+fn read_signalled(kind: &[u8], thread: Thread) -> Command {
     match kind {
         [b'S', _, _] => Command::Go(Way::Step, thread),
         [b'C', _, _] => Command::Go(Way::Continue, Thread::Any),
@@ -120,7 +121,7 @@ fn first_action(actions: &[u8]) -> &[u8]
 }
 
 /// What the first of the actions of `vCont` asks for.
-fn read_actions(actions: &[u8]) -> Command<'static>
+fn read_actions(actions: &[u8]) -> Command
     ensures step { (action named : List ℕ) (thread : ThreadOf) → IsFirstAction actions.now action → IsAction action 115 named → IsThread named thread →
         result ≡ Command.Go Way.Step thread }
     ensures on { (action named : List ℕ) → IsFirstAction actions.now action → IsAction action 99 named → result ≡ Command.Go Way.Continue Thread.Any }
@@ -131,7 +132,7 @@ fn read_actions(actions: &[u8]) -> Command<'static>
 }
 
 /// Of a packet of a long name: `vCont`, or one that is not known.
-fn read_long(packet: &[u8]) -> Command<'_>
+fn read_long(packet: &[u8]) -> Command
     ensures step { (named : List ℕ) (thread : ThreadOf) → AsksForAction packet.now 115 named → IsThread named thread → result ≡ Command.Go Way.Step thread }
     ensures on { (named : List ℕ) → AsksForAction packet.now 99 named → result ≡ Command.Go Way.Continue Thread.Any }
 {
@@ -139,7 +140,7 @@ fn read_long(packet: &[u8]) -> Command<'_>
     if is(name, b"vCont") {
         return read_actions(actions);
     }
-    read_other(packet)
+    read_rest(packet)
 }
 
 /// The way of a packet that names one.
@@ -166,7 +167,7 @@ fn short_way(packet: &[u8]) -> Option<Way>
 }
 
 /// Of a packet that goes somewhere.
-fn read_way(packet: &[u8]) -> Command<'_>
+fn read_way(packet: &[u8]) -> Command
     ensures { (way : WayOf) (thread : ThreadOf) → AsksToGo packet.now way thread → result ≡ Command.Go way thread }
 {
     match short_way(packet) {
@@ -176,7 +177,7 @@ fn read_way(packet: &[u8]) -> Command<'_>
 }
 
 /// Of a packet that chooses a thread.
-fn read_choice(choice: &[u8]) -> Command<'static>
+fn read_choice(choice: &[u8]) -> Command
     ensures { (kind : ℕ) (named : List ℕ) (thread : ThreadOf) → choice.now ≡ kind ∷ named → IsThread named thread → result ≡ Command.Note (Note.Choose kind thread) }
 {
     match first_byte(choice) {
@@ -186,7 +187,7 @@ fn read_choice(choice: &[u8]) -> Command<'static>
 }
 
 /// Of a packet that puts a point.
-fn read_insert(point: &[u8]) -> Command<'static>
+fn read_insert(point: &[u8]) -> Command
     ensures { (p : PointOf) → IsPoint point.now p → result ≡ Command.Note (Note.Insert p) }
 {
     match read_point(point) {
@@ -196,7 +197,7 @@ fn read_insert(point: &[u8]) -> Command<'static>
 }
 
 /// Of a packet that takes a point away.
-fn read_remove(point: &[u8]) -> Command<'static>
+fn read_remove(point: &[u8]) -> Command
     ensures { (p : PointOf) → IsPoint point.now p → result ≡ Command.Note (Note.Remove p) }
 {
     match read_point(point) {
@@ -213,14 +214,14 @@ fn is_note(kind: u8) -> bool
 }
 
 /// Of a packet that asks whether a thread is there.
-fn read_there(thread: &[u8]) -> Command<'static>
+fn read_there(thread: &[u8]) -> Command
     ensures { (t : ThreadOf) → IsThread thread.now t → result ≡ Command.Note (Note.IsThere t) }
 {
     Command::Note(Note::IsThere(read_thread(thread)))
 }
 
 /// Of a packet that notes something.
-fn read_note(kind: u8, rest: &[u8]) -> Command<'static>
+fn read_note(kind: u8, rest: &[u8]) -> Command
     ensures choose { (k : ℕ) (named : List ℕ) (t : ThreadOf) → kind ≡ 72 → rest.now ≡ k ∷ named → IsThread named t → result ≡ Command.Note (Note.Choose k t) }
     ensures there { (t : ThreadOf) → kind ≡ 84 → IsThread rest.now t → result ≡ Command.Note (Note.IsThere t) }
     ensures insert { (point : PointOf) → kind ≡ 90 → IsPoint rest.now point → result ≡ Command.Note (Note.Insert point) }
@@ -235,7 +236,7 @@ fn read_note(kind: u8, rest: &[u8]) -> Command<'static>
 }
 
 /// Of a packet that asks for memory.
-fn read_memory(range: &[u8]) -> Command<'_>
+fn read_memory(range: &[u8]) -> Command
     ensures { (address many : ℕ) → IsRange range.now address many → result ≡ Command.Show (Show.Memory (record { first = address; length = many })) }
 {
     match read_range(range) {
@@ -245,7 +246,7 @@ fn read_memory(range: &[u8]) -> Command<'_>
 }
 
 /// Of a packet that asks for a register.
-fn read_register(number: &[u8]) -> Command<'_>
+fn read_register(number: &[u8]) -> Command
     ensures { (n : ℕ) → IsHex number.now n → result ≡ Command.Show (Show.Register n) }
 {
     match read_hex(number) {
@@ -261,13 +262,31 @@ fn is_change(kind: u8) -> bool
     kind == b'G' || kind == b'P' || kind == b'M' || kind == b'X'
 }
 
-/// Of a packet that shows nothing, notes nothing and goes nowhere.
-fn read_other(packet: &[u8]) -> Command<'_> {
+/// Whether a packet of this kind is a query, or ends the session.
+fn is_other(kind: u8) -> bool
+    ensures { result ≡ (kind == 113 || kind == 81 || kind == 68 || kind == 107) }
+{
+    kind == b'q' || kind == b'Q' || kind == b'D' || kind == b'k'
+}
+
+/// Of a packet that is a query, or ends the session.
+fn read_other(kind: u8) -> Other
+    ensures query { (kind ≡ 113) ⊎ (kind ≡ 81) → result ≡ Other.Query }
+    ensures detach { kind ≡ 68 → result ≡ Other.Detach }
+    ensures kill { kind ≡ 107 → result ≡ Other.Kill }
+{
+    match kind {
+        b'D' => Other::Detach,
+        b'k' => Other::Kill,
+        _ => Other::Query,
+    }
+}
+
+/// Of a packet of no form that says what it asks for.
+fn read_rest(packet: &[u8]) -> Command {
     match packet {
-        [b'q' | b'Q' | b'v', ..] => Command::Other(Other::Query(packet)),
+        [b'v', ..] => Command::Other(Other::Query),
         [b's' | b'c', ..] => Command::Change,
-        [b'D', ..] => Command::Other(Other::Detach),
-        [b'k', ..] => Command::Other(Other::Kill),
         _ => Command::Other(Other::Unknown),
     }
 }
@@ -280,7 +299,7 @@ fn is_show(kind: u8) -> bool
 }
 
 /// Of a packet that shows registers or memory.
-fn read_show(kind: u8, rest: &[u8]) -> Command<'_>
+fn read_show(kind: u8, rest: &[u8]) -> Command
     ensures why { kind ≡ 63 → rest.now ≡ [] → result ≡ Command.Show Show.Why }
     ensures registers { kind ≡ 103 → rest.now ≡ [] → result ≡ Command.Show Show.Registers }
     ensures register { (n : ℕ) → kind ≡ 112 → IsHex rest.now n → result ≡ Command.Show (Show.Register n) }
@@ -297,7 +316,7 @@ fn read_show(kind: u8, rest: &[u8]) -> Command<'_>
 }
 
 /// What the packet asks for.
-pub(crate) fn read_command(packet: &[u8]) -> Command<'_>
+pub(crate) fn read_command(packet: &[u8]) -> Command
     ensures { (command : CommandOf) → AsksFor packet.now command → result ≡ command }
 {
     let Some((kind, rest)) = first_byte(packet) else {
@@ -311,6 +330,9 @@ pub(crate) fn read_command(packet: &[u8]) -> Command<'_>
     }
     if is_note(kind) {
         return read_note(kind, rest);
+    }
+    if is_other(kind) {
+        return Command::Other(read_other(kind));
     }
     read_way(packet)
 }

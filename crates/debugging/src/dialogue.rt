@@ -1,10 +1,10 @@
 //! What gdb sends, in pieces, and what is sent back.
 
-ghost use Rattle.std.specs.Prelude.{◌≡◌, ◌++◌, [], ℕ, List, false, codes, IfOk, OnOk};
+ghost use Rattle.std.specs.Prelude.{◌≡◌, ◌++◌, ◌||◌, [], ℕ, List, false, codes, IfOk, OnOk};
 ghost use Rattle.gdb_packets.specs.declared.event.Event.{Event as EventOf};
 ghost use Rattle.gdb_packets.specs.Packets.{spelling};
 ghost use Rattle.gdb_packets.specs.Streams.{Follows};
-ghost use Rattle.debugging.specs.Conversations.{conversation_at, sign, packet_of, last_of, is_last, Hears, HearsPacket, HasHeard};
+ghost use Rattle.debugging.specs.Conversations.{conversation_at, sign, packet_of, last_of, is_last, Hears, HearsNext, HearsPacket, HasHeard};
 ghost use Rattle.debugging.specs.machinery.Added.{Adds};
 
 use crate::numbers::is;
@@ -76,8 +76,8 @@ impl Conversation {
     fn say(&mut self, alloc: Global, said: &mut Vec<u8>, answer: Answer) -> Result<(), Memory>
         ensures said { OnOk result (said.new.items ≡ said.old.items ++ packet_of answer) }
         ensures last { OnOk result (self.new ≡ record self.old {
-            last = last_of answer self.old.last;
-            is_over = is_last answer || self.old.is_over;
+          last = last_of answer self.old.last;
+          is_over = is_last answer || self.old.is_over;
         }) }
     {
         match answer {
@@ -118,10 +118,12 @@ impl Conversation {
         self.acknowledge(said, b'+')?;
         let answer = self.session.answer(alloc, packet)?;
         self.acknowledges = acknowledges_behind(self.acknowledges, packet);
-        self.say(alloc, said, answer)
+        self.say(alloc, said, answer)?;
+        Ok(())
     }
 
     /// Hears what gdb sends. An interrupt says nothing: nothing goes on when it is heard.
+    #[tactic(auto, using(crate::proofs::Sending::nothing_heard, crate::proofs::Sending::nothing_interrupted))]
     fn hear(&mut self, alloc: Global, said: &mut Vec<u8>, event: &Event) -> Result<(), Memory>
         ensures { OnOk result (Adds said.old.items said.new.items (Hears event.now self.old self.new)) }
     {
@@ -131,6 +133,17 @@ impl Conversation {
             Event::Again => self.say_again(said),
             Event::Heard | Event::Interrupt => Ok(()),
         }
+    }
+
+    /// Hears what gdb sends, until gdb has gone.
+    #[tactic(auto, using(crate::proofs::Sending::none_heard))]
+    fn hear_next(&mut self, alloc: Global, said: &mut Vec<u8>, event: &Event) -> Result<(), Memory>
+        ensures { OnOk result (Adds said.old.items said.new.items (HearsNext event.now self.old self.new)) }
+    {
+        if self.is_over {
+            return Ok(());
+        }
+        self.hear(alloc, said, event)
     }
 }
 
@@ -164,9 +177,7 @@ impl Dialogue {
         let (feed, events) = feed.push(alloc, piece)?;
         let mut said = Vec::new(alloc);
         for event in &events {
-            if !conversation.is_over {
-                conversation.hear(alloc, &mut said, event)?;
-            }
+            conversation.hear_next(alloc, &mut said, event)?;
         }
         Ok((Dialogue { feed, conversation }, said))
     }

@@ -1,9 +1,9 @@
 //! Numbers in packets.
 
-ghost use Rattle.std.specs.Prelude.{◌≡◌, ◌⊎◌, ◌↔◌, IsTrue, ℕ, ◌-◌, ◌<◌, ◌≤◌, [], ◌++◌, ◌∷◌, length, take, replicate, slice_index, Some, None, IfSome, IfNone};
+ghost use Rattle.std.specs.Prelude.{◌≡◌, ◌⊎◌, ◌↔◌, IsTrue, ℕ, List, ◌-◌, ◌<◌, ◌≤◌, [], ◌++◌, ◌∷◌, codes, length, take, replicate, slice_index, Some, None, IfSome, IfNone};
 ghost use Rattle.ft_types.specs.declared.names.TheConstants.{HART_LIMIT};
-ghost use Rattle.debugging.specs.declared.numbers.Thread.TheVariants as Thread;
-ghost use Rattle.debugging.specs.Asked.{IsHex, IsRange, IsOfHart, HasNone};
+ghost use Rattle.debugging.specs.declared.numbers.Thread.{Thread as ThreadOf};
+ghost use Rattle.debugging.specs.Asked.{IsHex, IsRange, IsThread, IsOfHart, HasNone};
 
 use ft_types::{Hart, read_word};
 use moments::Bytes;
@@ -23,6 +23,22 @@ pub(crate) fn is(text: &[u8], other: &[u8]) -> bool
     ensures { IsTrue result ↔ (text.now ≡ other.now) }
 {
     text == other
+}
+
+/// What stands behind these bytes, where the text begins with them.
+#[tactic(auto, using(crate::proofs::Digits::front_longer))]
+pub(crate) fn behind<'a>(text: &'a [u8], front: &[u8]) -> Option<&'a [u8]>
+    ensures some { IfSome result (λ rest. text.now ≡ front.now ++ rest.now) }
+    ensures none { IfNone result ((rest : List ℕ) → text.now ≡ front.now ++ rest → ⊥) }
+{
+    if text.len() < front.len() {
+        return None;
+    }
+    let (head, rest) = text.split_at(front.len());
+    if is(head, front) {
+        return Some(rest);
+    }
+    None
 }
 
 /// The first byte, and what stands behind it.
@@ -97,27 +113,34 @@ pub(crate) fn read_range(text: &[u8]) -> Option<Bytes>
     Some(Bytes { first, length })
 }
 
+/// Whether the text names any thread, or every one, and is no number.
+fn names_any(text: &[u8]) -> bool
+    ensures { IsTrue result ↔ ((text.now ≡ []) ⊎ (text.now ≡ codes "-1")) }
+{
+    text.is_empty() || is(text, b"-1")
+}
+
 /// The thread that the text names.
 pub(crate) fn read_thread(text: &[u8]) -> Thread
-    ensures number { (n : ℕ) → IsHex text.now n → 0 < n → result ≡ Thread.Number n }
-    ensures any { text.now ≡ [] → result ≡ Thread.Any }
+    ensures { (thread : ThreadOf) → IsThread text.now thread → result ≡ thread }
 {
-    if text.is_empty() {
+    if names_any(text) {
         return Thread::Any;
     }
-    match read_hex(text) {
-        Some(0) => Thread::Any,
-        Some(number) => Thread::Number(number),
-        None if is(text, b"-1") => Thread::Any,
-        None => Thread::Wrong,
+    let Some(number) = read_hex(text) else {
+        return Thread::Wrong;
+    };
+    if number == 0 {
+        return Thread::Any;
     }
+    Thread::Number(number)
 }
 
 /// The hart of the thread, of so many harts.
 pub(crate) fn hart_of(thread: Thread, harts: u8) -> Option<Hart>
     requires { harts ≤ HART_LIMIT }
     ensures some { (hart : ℕ) → IsOfHart harts thread hart → result ≡ Some hart }
-    ensures any { thread ≡ Thread.Any → result ≡ None }
+    ensures found { IfSome result (IsOfHart harts thread) }
 {
     match thread {
         Thread::Number(number) if number > 0 && number <= u32::from(harts) => {

@@ -1,12 +1,13 @@
 //! A session: what is asked, and what is answered.
 
-ghost use Rattle.std.specs.Prelude.{◌≡◌, ◌≤◌, ◌⊎◌, ℕ, Bool, true, List, IfOk, IfSome, IfNone, None, Some, codes};
+ghost use Rattle.std.specs.Prelude.{◌≡◌, ◌≤◌, ◌⊎◌, ℕ, Bool, true, false, List, IfOk, IfSome, IfNone, None, Some, codes};
 ghost use Rattle.debugging.specs.declared.commands.Command.{Command as CommandOf};
+ghost use Rattle.debugging.specs.declared.commands.Command.TheVariants as Command;
 ghost use Rattle.debugging.specs.declared.commands.Show.TheVariants as Show;
-ghost use Rattle.debugging.specs.declared.numbers.Thread.TheVariants as Thread;
-ghost use Rattle.debugging.specs.Asked.{IsOfHart};
+ghost use Rattle.debugging.specs.Asked.{IsOfHart, IsOfNone};
 ghost use Rattle.debugging.specs.Commands.{AsksFor, IsStill};
-ghost use Rattle.debugging.specs.Notes.{HasChosen, HasNoted, harts_of, told};
+ghost use Rattle.debugging.specs.Queries.{AsksForText};
+ghost use Rattle.debugging.specs.Notes.{HasChosen, HasNoted, harts_of, is_any, told};
 ghost use Rattle.debugging.specs.Sessions.{IsShown, IsOfLine, session_at};
 ghost use Rattle.debugging.specs.Ways.{IsLed, HasGone};
 ghost use Rattle.debugging.specs.Answers.{Says, IsShowing, Answers};
@@ -111,25 +112,42 @@ impl Session {
     /// The hart of a thread, where it is one.
     fn hart_of(&self, thread: Thread) -> Option<Hart>
         ensures some { (hart : ℕ) → IsOfHart (harts_of self.now) thread hart → result ≡ Some hart }
-        ensures any { thread ≡ Thread.Any → result ≡ None }
+        ensures found { IfSome result (IsOfHart (harts_of self.now) thread) }
     {
         hart_of(thread, self.line.harts())
+    }
+
+    /// Notes the hart of which more is asked, or that is led.
+    fn choose_hart(&mut self, kind: u8, hart: Hart) -> bool
+        ensures line { self.new.line ≡ self.old.line }
+        ensures chosen { HasChosen kind hart self.old self.new result }
+    {
+        match kind {
+            b'g' => self.shown = hart,
+            b'c' => self.led = hart,
+            _ => return false,
+        }
+        true
     }
 
     /// Chooses a hart for what more is asked, or for what is led. Every thread, and any, leave it as it was.
     fn choose(&mut self, kind: u8, thread: Thread) -> bool
         ensures line { self.new.line ≡ self.old.line }
         ensures chosen { (hart : ℕ) → IsOfHart (harts_of self.old) thread hart → HasChosen kind hart self.old self.new result }
+        ensures none { IsOfNone (harts_of self.old) thread → (result ≡ is_any thread) × (self.new ≡ self.old) }
     {
-        let Some(hart) = self.hart_of(thread) else {
-            return matches!(thread, Thread::Any);
-        };
-        if kind == b'g' {
-            self.shown = hart;
-            return true;
+        match self.hart_of(thread) {
+            Some(hart) => self.choose_hart(kind, hart),
+            None => matches!(thread, Thread::Any),
         }
-        self.led = hart;
-        kind == b'c'
+    }
+
+    /// Whether a hart is that of the thread.
+    fn has(&self, thread: Thread) -> bool
+        ensures there { (hart : ℕ) → IsOfHart (harts_of self.now) thread hart → result ≡ true }
+        ensures none { IsOfNone (harts_of self.now) thread → result ≡ false }
+    {
+        self.hart_of(thread).is_some()
     }
 
     /// The hart of a thread, where it is one; else the one that was led last.
@@ -220,7 +238,7 @@ impl Session {
     {
         match note {
             Note::Choose(kind, thread) => Ok(self.choose(kind, thread)),
-            Note::IsThere(thread) => Ok(self.hart_of(thread).is_some()),
+            Note::IsThere(thread) => Ok(self.has(thread)),
             Note::Insert(point) => put_point(&mut self.points, point),
             Note::Remove(point) => {
                 drop_point(&mut self.points, point);
@@ -238,23 +256,34 @@ impl Session {
         Ok(Answer::Says(told(alloc, is_right)?))
     }
 
-    /// What a query is answered.
-    fn answer_query(&mut self, alloc: Global, query: &[u8]) -> Result<Vec<u8>, Memory>
+    /// What a command of gdb's `monitor` is answered, whose text these digits are.
+    pub(crate) fn answer_monitor(&mut self, alloc: Global, digits: &[u8]) -> Result<Vec<u8>, Memory>
         ensures line { IsOfLine self.old.line self.new.line }
     {
-        match self.ask(alloc, query) {
+        match self.tell(alloc, digits) {
             Ok(text) => Ok(text),
             Err(fault) => nowhere(alloc, fault),
         }
     }
 
+    /// What a query is answered.
+    fn answer_query(&mut self, alloc: Global, query: &[u8]) -> Result<Answer, Memory>
+        ensures line { IsOfLine self.old.line self.new.line }
+        ensures still { (text : List ℕ) → AsksForText query.now self.old text → self.new ≡ self.old }
+        ensures told { (text : List ℕ) → AsksForText query.now self.old text → IfOk result (Says text) }
+    {
+        Ok(Answer::Says(self.ask(alloc, query)?))
+    }
+
     /// What anything else is answered.
     #[tactic(auto, using(crate::proofs::Lines::stays))]
-    fn obey(&mut self, alloc: Global, other: Other<'_>) -> Result<Answer, Memory>
+    fn obey(&mut self, alloc: Global, other: Other, packet: &[u8]) -> Result<Answer, Memory>
         ensures line { IsOfLine self.old.line self.new.line }
+        ensures still { IsStill (Command.Other other) → self.new ≡ self.old }
+        ensures answers { IfOk result (Answers packet.now (Command.Other other) self.old self.new) }
     {
         match other {
-            Other::Query(query) => Ok(Answer::Says(self.answer_query(alloc, query)?)),
+            Other::Query => self.answer_query(alloc, packet),
             Other::Detach => Ok(Answer::SaysLast(told(alloc, true)?)),
             Other::Kill => Ok(Answer::Over),
             Other::Wrong => Ok(Answer::Says(told(alloc, false)?)),
@@ -265,9 +294,9 @@ impl Session {
     /// What the packet that says these bytes is answered.
     pub fn answer(&mut self, alloc: Global, packet: &[u8]) -> Result<Answer, Memory>
         // What a packet asks for is answered as it must be.
-        ensures answers { (command : CommandOf) → AsksFor packet.now command → IfOk result (Answers command self.old self.new) }
+        ensures answers { (command : CommandOf) → AsksFor packet.now command → IfOk result (Answers packet.now command self.old self.new) }
 
-        // What is only shown, or would be another past, changes nothing.
+        // What is only shown, would be another past, or ends the session changes nothing.
         ensures still { (command : CommandOf) → AsksFor packet.now command → IsStill command → self.new ≡ self.old }
 
         // It stands on the same line, whatever comes.
@@ -278,7 +307,7 @@ impl Session {
             Command::Change => past(alloc),
             Command::Note(note) => self.answer_note(alloc, note),
             Command::Go(way, thread) => self.lead(alloc, way, thread),
-            Command::Other(other) => self.obey(alloc, other),
+            Command::Other(other) => self.obey(alloc, other, packet),
         }
     }
 }

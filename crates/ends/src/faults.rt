@@ -149,6 +149,8 @@ pub enum Fault {
     Frames(Frames, FramesFault),
     /// The log was handed over to this term, which is not below the one that asks.
     Fenced(Term),
+    /// The log was handed over to this term last, of which the one that asks is out of reach.
+    Far(Term),
     /// The number of why no primary goes live from what was handed over.
     Live(u8),
     /// The line of what a client asks for, from 1, that is no word.
@@ -197,6 +199,7 @@ impl Fault {
             Fault::Behind => "log behind",
             Fault::Frames(frames, _) => frames.words(),
             Fault::Fenced(_) => "fence",
+            Fault::Far(_) => "fence far",
             Fault::Live(_) => "live",
             Fault::BadWord(_) => "words line",
             Fault::Contradiction => "contradiction",
@@ -213,7 +216,7 @@ impl Fault {
             Fault::ImageLine(line) | Fault::BadWord(line) => Some(*line),
             Fault::Image(number) | Fault::Live(number) => Some(u64::from(*number)),
             Fault::Frames(frames, _) => frames.number(),
-            Fault::Fenced(term) => Some(u64::from(*term)),
+            Fault::Fenced(term) | Fault::Far(term) => Some(u64::from(*term)),
             Fault::Unanswered(number) => Some(*number as u64),
             _ => None,
         }

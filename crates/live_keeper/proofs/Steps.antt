@@ -7,8 +7,8 @@ use Rattle.log_join.specs.Answers.{answer_to}
 use Rattle.log_join.specs.Stores.{StoreView, IsJoin, alone}
 use Rattle.log_join.specs.declared.answers.Put.{Put}
 use Rattle.log_join.specs.declared.answers.Put.TheVariants.{New, Same, OtherGuest, Clash}
-use Rattle.stations.specs.Stations.{StationView}
-use Rattle.live_keeper.specs.Turns.{KeepingView, TakesFrames, TookAll, TookNew, TookOther, with_new, TakesEvent, TakesEvents, NoEvent, OneEvent, is_logged, are_logged, passed_of, passes, IsPass}
+use Rattle.stations.specs.Stations.{StationView, IsFar}
+use Rattle.live_keeper.specs.Turns.{KeepingView, TakesFrames, TookAll, TookNew, TookOther, PassedOver, with_new, TakesEvent, TakesEvents, NoEvent, OneEvent, is_logged, are_logged, passed_of, passes, IsPass}
 use Rattle.live_keeper.specs.declared.events.Event.{Event}
 use Rattle.live_keeper.specs.declared.events.Event.TheVariants.{Begin, Frames, Ended, Passed, Failed}
 use Rattle.live_keeper.specs.declared.events.KeeperDeed.{KeeperDeed}
@@ -18,10 +18,12 @@ use Rattle.live_keeper.specs.declared.events.KeeperDeed.TheVariants.{Say, Pass}
 
 pub took_more : (s t u : StationView) (frames more : List Frame) → TakesFrames s frames t → TakesFrames t more u → TakesFrames s (frames ++ more) u
 took_more s t u frames more (TookAll same) others = others
-took_more s t u frames more (TookNew from to frame rest store is join takes) others =
-    TookNew s u frame (rest ++ more) store is join (took_more (with_new s frame store) t u rest more takes others)
+took_more s t u frames more (TookNew from to frame rest store near is join takes) others =
+    TookNew s u frame (rest ++ more) store near is join (took_more (with_new s frame store) t u rest more takes others)
 took_more s t u frames more (TookOther from to frame rest other clean takes) others =
     TookOther s u frame (rest ++ more) other clean (took_more s t u rest more takes others)
+took_more s t u frames more (PassedOver from to frame rest far takes) others =
+    PassedOver s u frame (rest ++ more) far (took_more s t u rest more takes others)
 
 -- a station with a new frame is known by its parts
 with_is : (s t : StationView) (frame : Frame) → t.fresh ≡ s.fresh ++ spelling frame → t.seen ≡ s.seen → t.keeper ≡ s.keeper → with_new s frame t.store ≡ t
@@ -31,9 +33,9 @@ with_is s t frame fresh seen keeper =
     ∙ ap (λ (number : ℕ). let v : StationView = record { keeper = number; store = t.store; fresh = t.fresh; seen = t.seen } in v) (sym keeper)
 
 -- what `take` says of a frame that is new
-took_new : (s t : StationView) (frame : Frame) → answer_to s.store frame ≡ New → IsJoin s.store (alone frame) t.store →
+took_new : (s t : StationView) (frame : Frame) → (IsFar s frame → ⊥) → answer_to s.store frame ≡ New → IsJoin s.store (alone frame) t.store →
     t.fresh ≡ s.fresh ++ spelling frame → t.seen ≡ s.seen → t.keeper ≡ s.keeper → TakesFrames s (frame ∷ []) t
-took_new s t frame is join fresh seen keeper = TookNew s t frame [] t.store is join
+took_new s t frame near is join fresh seen keeper = TookNew s t frame [] t.store near is join
     (subst (λ (v : StationView). TakesFrames v [] t) (sym (with_is s t frame fresh seen keeper)) (TookAll t))
 
 took_other : (s t : StationView) (frame : Frame) (put : Put) → put ≡ answer_to s.store frame → (put ≡ New → ⊥) → (put ≡ Clash → ⊥) → t ≡ s →
@@ -44,15 +46,20 @@ took_other s t frame put is other clean same = subst (λ (v : StationView). Take
 is_other : (put one other : Put) → put ≡ one → (one ≡ other → ⊥) → put ≡ other → ⊥
 is_other put one other is differs e = differs (sym is ∙ e)
 
--- what `take` says of a frame that does not clash
-pub took : (s t : StationView) (frame : Frame) (put : Put) → put ≡ answer_to s.store frame → (put ≡ New) ⊎ ((put ≡ Same) ⊎ (put ≡ OtherGuest)) →
-    (put ≡ New → IsJoin s.store (alone frame) t.store) → (put ≡ New → t.fresh ≡ s.fresh ++ spelling frame) → ((put ≡ New → ⊥) → t ≡ s) →
-    t.seen ≡ s.seen → t.keeper ≡ s.keeper → TakesFrames s (frame ∷ []) t
-took s t frame put is (inl new) join fresh stays seen keeper = took_new s t frame (sym is ∙ new) (join new) (fresh new) seen keeper
-took s t frame put is (inr (inl same)) join fresh stays seen keeper =
+-- a frame that is far changes nothing
+pub passed_over : (s : StationView) (frame : Frame) → IsFar s frame → TakesFrames s (frame ∷ []) s
+passed_over s frame far = PassedOver s s frame [] far (TookAll s)
+
+-- what `take` says of a frame that is not, and does not clash
+pub took : (s t : StationView) (frame : Frame) (put : Put) → (IsFar s frame → ⊥) → put ≡ answer_to s.store frame →
+    (put ≡ New) ⊎ ((put ≡ Same) ⊎ (put ≡ OtherGuest)) → (put ≡ New → IsJoin s.store (alone frame) t.store) →
+    (put ≡ New → t.fresh ≡ s.fresh ++ spelling frame) → ((put ≡ New → ⊥) → t ≡ s) → t.seen ≡ s.seen → t.keeper ≡ s.keeper →
+    TakesFrames s (frame ∷ []) t
+took s t frame put near is (inl new) join fresh stays seen keeper = took_new s t frame near (sym is ∙ new) (join new) (fresh new) seen keeper
+took s t frame put near is (inr (inl same)) join fresh stays seen keeper =
     let other : put ≡ New → ⊥ = is_other put Same New same (λ e. absurd cc) in
     took_other s t frame put is other (is_other put Same Clash same (λ e. absurd cc)) (stays other)
-took s t frame put is (inr (inr foreign)) join fresh stays seen keeper =
+took s t frame put near is (inr (inr foreign)) join fresh stays seen keeper =
     let other : put ≡ New → ⊥ = is_other put OtherGuest New foreign (λ e. absurd cc) in
     took_other s t frame put is other (is_other put OtherGuest Clash foreign (λ e. absurd cc)) (stays other)
 

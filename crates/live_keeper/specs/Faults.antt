@@ -6,13 +6,13 @@ use Rattle.stations.specs.declared.faults.FilesFault.TheVariants.{Log, Fences, M
 use Rattle.stations.specs.declared.faults.LogFault.{LogFault}
 use Rattle.stations.specs.declared.faults.LogFault.TheVariants.{Files, Frame, OtherGuest, Clash}
 use Rattle.stations.specs.declared.faults.FenceFault.{FenceFault}
-use Rattle.stations.specs.declared.faults.FenceFault.TheVariants.{Files as FilesOfFence, Fenced}
+use Rattle.stations.specs.declared.faults.FenceFault.TheVariants.{Files as FilesOfFence, Fenced, Far}
 use Rattle.keeper_files.specs.declared.faults.OpenFault.{OpenFault}
 use Rattle.keeper_files.specs.declared.faults.OpenFault.TheVariants.{Files as FilesOfOpen, Locked, Link, Failed, NoLine, OtherKeeper, OtherLog, OtherFences}
 use Rattle.keeper_files.specs.declared.faults.MakeFault.{MakeFault}
 use Rattle.keeper_files.specs.declared.faults.MakeFault.TheVariants.{Files as FilesOfMake, There}
 use Rattle.ends.specs.declared.faults.Fault.{Fault}
-use Rattle.ends.specs.declared.faults.Fault.TheVariants.{File, Frames as WithFrames, Fenced as WasFenced, Locked as IsLocked, Link as IsLink, Failed as HasFailed, Moved as HasMoved, There as IsThere, NoLine as HasNoLine, OtherKeeper as OfOtherKeeper, OtherLog as IsOtherLog, OtherFences as HasOtherFences, Memory as NoMemory}
+use Rattle.ends.specs.declared.faults.Fault.TheVariants.{File, Frames as WithFrames, Fenced as WasFenced, Far as IsFar, Locked as IsLocked, Link as IsLink, Failed as HasFailed, Moved as HasMoved, There as IsThere, NoLine as HasNoLine, OtherKeeper as OfOtherKeeper, OtherLog as IsOtherLog, OtherFences as HasOtherFences, Memory as NoMemory}
 use Rattle.ends.specs.declared.faults.Frames.TheVariants.{Log as InLog}
 use Rattle.ends.specs.declared.faults.FramesFault.TheVariants.{Frame as OfFrame, Guest as OfGuest, Clash as OfClash}
 use Rattle.ends.specs.declared.faults.NamedFile.TheVariants.{Log as TheLog, Fences as TheFences}
@@ -32,6 +32,7 @@ told_of_log Clash = WithFrames InLog OfClash
 abbrev pub told_of_fence : FenceFault → Fault
 told_of_fence (FilesOfFence fault) = told_of_files fault
 told_of_fence (Fenced term) = WasFenced term
+told_of_fence (Far term) = IsFar term
 
 abbrev pub told_of_opening : OpenFault → Fault
 told_of_opening (FilesOfOpen fault) = told_of_files fault

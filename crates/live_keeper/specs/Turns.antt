@@ -8,7 +8,7 @@ use Rattle.log_join.specs.Stores.{StoreView, IsJoin, alone}
 use Rattle.log_join.specs.declared.answers.Put.TheVariants.{New, Clash}
 use Rattle.wire.specs.declared.acknowledgements.Acknowledgement.{Acknowledgement}
 use Rattle.stations.specs.Acts.{Act, Does}
-use Rattle.stations.specs.Stations.{StationView, AnswersAs, logging}
+use Rattle.stations.specs.Stations.{StationView, AnswersAs, IsFar, logging}
 use Rattle.live_keeper.specs.declared.events.Event.{Event}
 use Rattle.live_keeper.specs.declared.events.Event.TheVariants.{Begin, Frames, Ended, Passed, Failed}
 use Rattle.live_keeper.specs.declared.events.KeeperDeed.{KeeperDeed}
@@ -24,13 +24,15 @@ pub record KeepingView : Type 0 where
 abbrev pub with_new : StationView → Frame → StoreView → StationView
 with_new s frame store = record s { store = store; fresh = s.fresh ++ spelling frame }
 
--- `take` took these frames, one behind the other: each that is new is joined to the store and is to be added to the log, and none clashes
+-- `take` took these frames, one behind the other, but for openings that are far, which are passed over: each that is new is joined to the store and is to
+-- be added to the log, and none clashes
 pub data TakesFrames : StationView → List Frame → StationView → Type 0 where
   TookAll : (s : StationView) → TakesFrames s [] s
-  TookNew : (s u : StationView) (frame : Frame) (frames : List Frame) (store : StoreView) → answer_to s.store frame ≡ New →
-      IsJoin s.store (alone frame) store → TakesFrames (with_new s frame store) frames u → TakesFrames s (frame ∷ frames) u
+  TookNew : (s u : StationView) (frame : Frame) (frames : List Frame) (store : StoreView) → (IsFar s frame → ⊥) →
+      answer_to s.store frame ≡ New → IsJoin s.store (alone frame) store → TakesFrames (with_new s frame store) frames u → TakesFrames s (frame ∷ frames) u
   TookOther : (s u : StationView) (frame : Frame) (frames : List Frame) → answer_to s.store frame ≢ New → answer_to s.store frame ≢ Clash →
       TakesFrames s frames u → TakesFrames s (frame ∷ frames) u
+  PassedOver : (s u : StationView) (frame : Frame) (frames : List Frame) → IsFar s frame → TakesFrames s frames u → TakesFrames s (frame ∷ frames) u
 
 -- ---- events
 

@@ -39,6 +39,7 @@ pub fn fence_fault(fault: FenceFault) -> Fault
     match fault {
         FenceFault::Files(fault) => files_fault(fault),
         FenceFault::Fenced(term) => Fault::Fenced(term),
+        FenceFault::Far(term) => Fault::Far(term),
     }
 }
 

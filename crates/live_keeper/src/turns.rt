@@ -62,7 +62,7 @@ fn say(said: Option<Acknowledgement>, deeds: &mut Vec<KeeperDeed>) -> Result<(),
     }
 }
 
-/// Takes a frame of the input with this number. One that clashes ends the keeper.
+/// Takes a frame of the input with this number, but for an opening that is far, which is passed over. One that clashes ends the keeper.
 fn take_frame(
     alloc: Global,
     station: &mut KeeperStation,
@@ -72,6 +72,9 @@ fn take_frame(
     ensures taken { OnOk result (TakesFrames station.old (frame ∷ []) station.new) }
     ensures fault { IfErr result (λ f. (f ≡ Fault.Memory) ⊎ ((f ≡ Fault.Frames (Frames.Input input) FramesFault.Clash) × (answer_to station.old.store frame ≡ Put.Clash))) }
 {
+    if station.is_far(&frame) {
+        return Ok(());
+    }
     let Ok(put) = station.take(alloc, frame) else {
         return Err(Fault::Memory);
     };

@@ -1,3 +1,4 @@
 pub mod Faults
 pub mod Pairs
 pub mod Outsets
+pub mod Renewals

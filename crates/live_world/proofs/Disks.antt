@@ -51,7 +51,7 @@ none_left false = refl
 -- whoever hands a log over crashes no machine
 hand_lives : (act : HandAct) (s t : ShelfView) → HandDoes act s t → t.crashed ≡ s.crashed
 hand_lives hands.Looks s t (nobody, rest) = ap (λ (t : ShelfView). t.crashed) rest
-hand_lives (hands.Fences term) s t (last, saw, less, rest) = ap (λ (t : ShelfView). t.crashed) rest
+hand_lives (hands.Fences term) s t (last, saw, less, near, rest) = ap (λ (t : ShelfView). t.crashed) rest
 hand_lives hands.Reads s t (term, fenced, rest) = ap (λ (t : ShelfView). t.crashed) rest
 hand_lives hands.Ends s t rest = ap (λ (t : ShelfView). t.crashed) rest
 

@@ -1,13 +1,14 @@
 -- Whoever hands a log over, over what it saw.
-use Rattle.std.proofs.Common.{◌≡◌, ◌≤◌, ◌++◌, ℕ, List, [], ◌∷◌, None, Some, inl, inr, refl, sym, ap, subst}
+use Rattle.std.proofs.Common.{◌≡◌, ◌≤◌, ◌<◌, ◌+◌, ◌++◌, ℕ, List, [], ◌∷◌, None, Some, inl, inr, refl, sym, ap, subst}
 use Rattle.ft_types.specs.Guests.{GuestParts}
 use Rattle.stations.specs.Acts.{Act, SawLog, CutTo, Added, Synced, SawFence, Fenced, Failed, Does}
 use Rattle.stations.specs.Handing.{IsHanded, IsHandedTo, IsNotFenced, IsNotHanded}
 use Rattle.stations.specs.Logs.{IsFrontOf}
 use Rattle.stations.specs.declared.faults.FenceFault.{FenceFault}
-use Rattle.stations.specs.declared.faults.FenceFault.TheVariants.{Files as FilesOfFence, Fenced as WasFenced}
+use Rattle.stations.specs.declared.faults.FenceFault.TheVariants.{Files as FilesOfFence, Fenced as WasFenced, Far}
 use Rattle.stations.specs.declared.faults.LogFault.{LogFault}
 use Rattle.stations.specs.declared.faults.LogFault.TheVariants.{Files, Frame as FrameAt, OtherGuest, Clash}
+use Rattle.stations.specs.declared.reach.TheConstants.{TERM_REACH}
 use Rattle.live_world.specs.Hands.{HasHanded, IsNotFencedOff, IsNotRead}
 use Rattle.live_world.specs.declared.hand.HandedTo.{HandedTo}
 use Rattle.live_world.specs.machinery.Seen.{LeavesSeen, TellsSeen}
@@ -55,10 +56,13 @@ pub not_fenced_off : (last now term : ℕ) (a b : List ℕ) (f : FenceFault) →
 not_fenced_off last now term a b (WasFenced fence) not =
     let seen = was_seen last now a b (SawFence fence ∷ []) not.1 in
     (subst (λ (n : ℕ). term ≤ n) seen.left.0 not.0, seen.left.0)
+not_fenced_off last now term a b (Far fence) not =
+    let seen = was_seen last now a b (SawFence fence ∷ []) not.1 in
+    (subst (λ (n : ℕ). n + TERM_REACH < term) seen.left.0 not.0, seen.left.0)
 not_fenced_off last now term a b (FilesOfFence fault) (inl does) = none_failed last now a b (Failed fault ∷ []) (λ l. l) does
-not_fenced_off last now term a b (FilesOfFence fault) (inr (seen, below, inl does)) =
+not_fenced_off last now term a b (FilesOfFence fault) (inr (seen, below, near, inl does)) =
     none_failed last now a b (SawFence seen ∷ Failed fault ∷ []) (λ l. l.1) does
-not_fenced_off last now term a b (FilesOfFence fault) (inr (seen, below, inr does)) =
+not_fenced_off last now term a b (FilesOfFence fault) (inr (seen, below, near, inr does)) =
     none_failed last now a b (SawFence seen ∷ Fenced term ∷ Failed fault ∷ []) (λ l. l.1) does
 
 pub not_read : (guest : GuestParts) (last now term : ℕ) (a b : List ℕ) (f : LogFault) → IsNotHanded guest (TellsSeen last a) (TellsSeen now b) f →

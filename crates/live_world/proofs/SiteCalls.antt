@@ -116,7 +116,7 @@ logs_not_rests keeper s _ t not rests = absurd not
 -- whoever hands a log over is no keeper, and crashes no machine
 hand_lives : (act : HandAct) (old new : ShelfView) → HandDoes act old new → new.crashed ≡ old.crashed
 hand_lives hands.Looks old new does = ap (λ (f : ShelfView). f.crashed) does.1
-hand_lives (hands.Fences term) old new does = ap (λ (f : ShelfView). f.crashed) does.3
+hand_lives (hands.Fences term) old new does = ap (λ (f : ShelfView). f.crashed) does.4
 hand_lives hands.Reads old new does = ap (λ (f : ShelfView). f.crashed) does.2
 hand_lives hands.Ends old new does = ap (λ (f : ShelfView). f.crashed) does
 

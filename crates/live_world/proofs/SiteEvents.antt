@@ -375,6 +375,7 @@ module _ (v : LiveView) (keeper : ℕ) (s : Site) (there : site_at v.sites keepe
   pub hand_refused : (act : HandAct) (f : EventFault) → IsNoTurn s.files act f → KeeperRefuses v (k.Hand keeper act) f
   hand_refused act fault.NoTurn not = (s, there, not)
   hand_refused act (fault.Fenced last) not = (s, there, not)
+  hand_refused act (fault.Far last) not = (s, there, not)
   hand_refused act fault.Memory not = tt
   hand_refused hands.Looks _ not = absurd not
   hand_refused (hands.Fences term) _ not = absurd not

@@ -134,7 +134,7 @@ module _ {w : ProcessWorld} {keeper : ℕ} {s : ShelfView} {p : Phase} {said : L
   -- whoever hands the log over did this
   pub hand_step : {t : ShelfView} (act : HandAct) → HandDoes act s t → Stands w keeper t p said
   hand_step hands.Looks (nobody, rest) = subst (λ (t : ShelfView). Stands w keeper t p said) (sym rest) (looks nobody)
-  hand_step (hands.Fences term) (last, saw, less, rest) =
+  hand_step (hands.Fences term) (last, saw, less, near, rest) =
       subst (λ (t : ShelfView). Stands w keeper t p said) (sym rest) (fences term last saw less)
   hand_step hands.Reads (term, fenced, rest) = subst (λ (t : ShelfView). Stands w keeper t p said) (sym rest) (reads term fenced)
   hand_step hands.Ends rest = subst (λ (t : ShelfView). Stands w keeper t p said) (sym rest) hand_ends

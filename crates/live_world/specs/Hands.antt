@@ -1,5 +1,5 @@
 -- What was handed over.
-use Rattle.std.specs.Prelude.{◌≡◌, ◌≤◌, ◌++◌, ℕ, List, [], None, Some}
+use Rattle.std.specs.Prelude.{◌≡◌, ◌≤◌, ◌<◌, ◌+◌, ◌++◌, ℕ, List, [], None, Some}
 use Rattle.std.specs.List.{AllByRecursion}
 use Rattle.ft_types.specs.Guests.{GuestParts}
 use Rattle.fragment_codec.specs.declared.frame.Frame.{Frame}
@@ -7,10 +7,11 @@ use Rattle.fragment_codec.specs.Streams.{IsPartial, Splits}
 use Rattle.stations.specs.Handing.{IsHandedTo}
 use Rattle.stations.specs.Logs.{IsFrontOf, IsOf}
 use Rattle.stations.specs.declared.faults.FenceFault.{FenceFault}
-use Rattle.stations.specs.declared.faults.FenceFault.TheVariants.{Files, Fenced}
+use Rattle.stations.specs.declared.faults.FenceFault.TheVariants.{Files, Fenced, Far}
 use Rattle.stations.specs.declared.faults.FilesFault.TheVariants.{Memory as NoMemory}
 use Rattle.stations.specs.declared.faults.LogFault.{LogFault}
 use Rattle.stations.specs.declared.faults.LogFault.TheVariants.{Files as FilesOfLog, Frame as FrameAt, OtherGuest, Clash}
+use Rattle.stations.specs.declared.reach.TheConstants.{TERM_REACH}
 use Rattle.live_world.specs.declared.hand.HandedTo.{HandedTo}
 use Rattle.live_world.specs.Shelves.{ReadView}
 
@@ -26,9 +27,10 @@ pub record HasHanded (guest : GuestParts) (keeper : ℕ) (read : ReadView) (hand
   pub partial : IsPartial rest
   pub line : IsHandedTo guest keeper read.term bytes handed.bytes.items
 
--- the term is not above the fence that was seen
+-- the term is not above the fence that was seen, or out of its reach
 abbrev pub IsNotFencedOff : ℕ → ℕ → FenceFault → Type 0
 IsNotFencedOff last term (Fenced fence) = (term ≤ last) × (fence ≡ last)
+IsNotFencedOff last term (Far fence) = (last + TERM_REACH < term) × (fence ≡ last)
 IsNotFencedOff last term (Files fault) = ⊥
 
 -- the log that was read has this fault, or a frame of another guest; or memory was refused

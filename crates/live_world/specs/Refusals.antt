@@ -56,6 +56,7 @@ KeeperRefuses v (k.Log keeper plan) fault.Rests = RestsAt v keeper
 KeeperRefuses v (k.Take keeper from to piece) fault.NoFrame = from ≤ to → to ≤ length v.frames → ⊥
 KeeperRefuses v (k.Hand keeper act) fault.NoTurn = (s : Site) × (site_at v.sites keeper ≡ Some s) × IsNoTurn s.files act fault.NoTurn
 KeeperRefuses v (k.Hand keeper act) (fault.Fenced last) = (s : Site) × (site_at v.sites keeper ≡ Some s) × IsNoTurn s.files act (fault.Fenced last)
+KeeperRefuses v (k.Hand keeper act) (fault.Far last) = (s : Site) × (site_at v.sites keeper ≡ Some s) × IsNoTurn s.files act (fault.Far last)
 KeeperRefuses v (k.Begin keeper plan) (fault.Log why) = Unit {0}
 KeeperRefuses v (k.Log keeper plan) (fault.Log why) = Unit {0}
 KeeperRefuses v (k.Hand keeper act) (fault.Log why) = Unit {0}

@@ -1,7 +1,8 @@
 -- A keeper's files in memory, and what happens to them beside the keeper's acts.
-use Rattle.std.specs.Prelude.{◌≡◌, ◌≤◌, ◌<◌, ℕ, Bool, true, false, List, [], take, Option, None, Some}
+use Rattle.std.specs.Prelude.{◌≡◌, ◌≤◌, ◌<◌, ◌+◌, ℕ, Bool, true, false, List, [], take, Option, None, Some}
 use Rattle.stations.specs.Handshake.{Files, Did, Crash, IsBeginning, after}
 use Rattle.stations.specs.Acts.{Fenced}
+use Rattle.stations.specs.declared.reach.TheConstants.{TERM_REACH}
 use Rattle.keeper_disks.specs.Disks.{Hand, Nobody, Saw, HasFenced}
 use Rattle.live_world.specs.declared.event.HandAct.{HandAct}
 use Rattle.live_world.specs.declared.event.HandAct.TheVariants as hands
@@ -54,17 +55,18 @@ pub record HasCrashed (old new : ShelfView) : Type 0 where
 abbrev pub HandDoes : HandAct → ShelfView → ShelfView → Type 0
 HandDoes hands.Looks old new = (old.hand ≡ Nobody) × (new ≡ record old { hand = Saw old.files.fence })
 HandDoes (hands.Fences term) old new =
-    (last : ℕ) × (old.hand ≡ Saw last) × (last < term) ×
+    (last : ℕ) × (old.hand ≡ Saw last) × (last < term) × (term ≤ last + TERM_REACH) ×
     (new ≡ record old { files = after old.files (Did (Fenced term)); hand = HasFenced term })
 HandDoes hands.Reads old new =
     (term : ℕ) × (old.hand ≡ HasFenced term) × (new ≡ record old { hand = Nobody; read = Some (record { term = term; log = old.files.log }) })
 HandDoes hands.Ends old new = new ≡ record old { hand = Nobody; read = None }
 
--- the act is not its next one; or the fence that it saw is not below the term; or memory was refused
+-- the act is not its next one; or the fence that it saw is not below the term, or the term is out of its reach; or memory was refused
 abbrev pub IsNoTurn : ShelfView → HandAct → EventFault → Type 0
 IsNoTurn old hands.Looks fault.NoTurn = (old.hand ≡ Nobody → old.read ≡ None → ⊥)
 IsNoTurn old (hands.Fences term) fault.NoTurn = (last : ℕ) → old.hand ≡ Saw last → ⊥
 IsNoTurn old (hands.Fences term) (fault.Fenced last) = (old.hand ≡ Saw last) × (term ≤ last)
+IsNoTurn old (hands.Fences term) (fault.Far last) = (old.hand ≡ Saw last) × (last + TERM_REACH < term)
 IsNoTurn old hands.Reads fault.NoTurn = (term : ℕ) → old.hand ≡ HasFenced term → ⊥
 IsNoTurn old hands.Reads fault.Memory = Unit {0}
 IsNoTurn _ _ _ = ⊥

@@ -18,6 +18,8 @@ pub enum EventFault {
     NoTurn,
     /// The log was fenced off for this term, which is not below the one that asks.
     Fenced(Term),
+    /// The log was fenced off for this term last, of which the one that asks is out of reach.
+    Far(Term),
     /// No frame of this number was sent.
     NoFrame,
     /// Nothing of this number was handed over.

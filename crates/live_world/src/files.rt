@@ -113,7 +113,7 @@ impl MemoryFiles {
         Ok(())
     }
 
-    /// It puts a fence of a term above the one that it saw.
+    /// It puts a fence of a term above the one that it saw, and in reach of that.
     fn put_fence(&mut self, alloc: Global, term: Term) -> Result<(), EventFault>
         ensures done { OnOk result (HandDoes (HandAct.Fences term) self.old self.new) }
         ensures err { OnErr result (self.new ≡ self.old) }
@@ -125,6 +125,7 @@ impl MemoryFiles {
         match fenced(alloc, last, term, Vec::new(alloc)) {
             Ok(_) => {}
             Err(FenceFault::Fenced(last)) => return Err(EventFault::Fenced(last)),
+            Err(FenceFault::Far(last)) => return Err(EventFault::Far(last)),
             Err(FenceFault::Files(_)) => return Err(EventFault::Memory),
         }
         self.fence = self.fence.max(term);

@@ -1,6 +1,7 @@
 //! Whoever hands a log over: its two calls over what it saw, act by act.
 
-ghost use Rattle.std.specs.Prelude.{◌≡◌, ◌<◌, IfOk, IfErr, OnOk};
+ghost use Rattle.std.specs.Prelude.{◌≡◌, ◌<◌, ◌≤◌, ◌+◌, IfOk, IfErr, OnOk};
+ghost use Rattle.stations.specs.declared.reach.TheConstants.{TERM_REACH};
 ghost use Rattle.live_world.specs.Hands.{HasHanded, IsNotFencedOff, IsNotRead};
 ghost use Rattle.live_world.specs.Shelves.{read_view};
 
@@ -78,6 +79,7 @@ pub(crate) fn fenced(
     ensures term { IfOk result (λ fenced. fenced.term ≡ term) }
     ensures log { IfOk result (λ fenced. fenced.files.log.items ≡ log.items) }
     ensures above { OnOk result (last < term) }
+    ensures in_reach { OnOk result (term ≤ last + TERM_REACH) }
     ensures refused { IfErr result (λ f. IsNotFencedOff last term f) }
 {
     match fence_off(alloc, SeenFiles { last, log }, term) {

@@ -14,7 +14,7 @@ use fenced_live::GivenFault;
 use ft_types::{Hart, Term};
 use go_live::LiveFault;
 use leading::LeadFault;
-use stations::FilesFault;
+use stations::{FilesFault, TERM_REACH};
 use std::alloc::Global;
 use std::result::Result;
 use std::test::Fail;
@@ -288,13 +288,16 @@ fn keepers_are_refused(alloc: Global, world: &mut LiveWorld) -> Result<bool, Fai
         EventFault::NoTurn,
     );
     hands(alloc, world, FIRST, &[HandAct::Looks])?;
-    let fenced = is_refused(
-        alloc,
-        world,
-        hand_of(FIRST, HandAct::Fences(1)),
-        EventFault::Fenced(1),
-    );
+    let fenced = fences_are_refused(alloc, world);
     Ok(lost && runs && rests && no_frame && no_turn && fenced)
+}
+
+/// Whether a term that is not above the last fence is refused, and one that is out of its reach.
+fn fences_are_refused(alloc: Global, world: &mut LiveWorld) -> bool {
+    let same = hand_of(FIRST, HandAct::Fences(1));
+    let far = hand_of(FIRST, HandAct::Fences(TERM_REACH + 2));
+    is_refused(alloc, world, same, EventFault::Fenced(1))
+        && is_refused(alloc, world, far, EventFault::Far(1))
 }
 
 /// Whether no primary goes live so.

@@ -1,12 +1,11 @@
 -- The first of the harts that may go, hart by hart.
-use Rattle.std.proofs.Common.{◌≡◌, inl, inr, ℕ, ◌+◌, ◌<◌, ◌≤◌, Bool, true, false, Option, Some, None, length, refl, ap, sym, subst, arith}
+use Rattle.std.proofs.Common.{◌≡◌, inl, inr, ℕ, ◌+◌, ◌<◌, ◌≤◌, Option, Some, None, ap, subst, arith}
 use Rattle.std.proofs.lemmas.Bool.{cases_lt}
 use Rattle.guest_image.specs.Machine.{MachineState}
 use Rattle.hart_lease.specs.Runs.{counts_of}
 use Rattle.hart_replay.specs.declared.plans.PlannedLeg.{PlannedLeg}
-use Rattle.moments.specs.Line.{MayGo, ComesFirst, IsNext, NoneMayGo}
-use Rattle.moments.specs.machinery.Choices.{IsFirstOf, Chosen}
-use Rattle.moments.proofs.Moves.{runs_there}
+use Rattle.moments.specs.Line.{MayGo}
+use Rattle.moments.specs.machinery.Choices.{Chosen}
 
 -- the hart has fewer steps than the one so far
 abbrev pub CountsLess : MachineState → ℕ → Option ℕ → Type 0
@@ -74,10 +73,3 @@ module _ (leg : PlannedLeg) (m : MachineState) (many : ℕ) where
                   ]
             ];
       }
-
--- the last choice is the next hart
-pub chosen_all : (leg : PlannedLeg) (m : MachineState) (hart : ℕ) → IsFirstOf leg m (length m.harts) hart → IsNext leg m hart
-chosen_all leg m hart so_far = record { may = so_far.may; first = λ other goes. so_far.first other (runs_there m other goes.runs) goes }
-
-pub none_chosen : (leg : PlannedLeg) (m : MachineState) → Chosen leg m (length m.harts) None → NoneMayGo leg m
-none_chosen leg m none = λ other goes. none other (runs_there m other goes.runs) goes

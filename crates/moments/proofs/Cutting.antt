@@ -1,11 +1,10 @@
 -- The counts at each moment of a plan's line are a closed cut.
-use Rattle.std.proofs.Common.{◌≡◌, inl, inr, ℕ, ◌+◌, ◌<◌, ◌≤◌, List, Some, Contains, slice_get, refl, ap, sym, subst, ◌∙◌, arith}
+use Rattle.std.proofs.Common.{◌≡◌, inl, inr, ℕ, ◌+◌, ◌≤◌, List, Some, Contains, slice_get, refl, ap, sym, subst, ◌∙◌, arith}
 use Rattle.std.specs.List.{range_with_len}
 use Rattle.std.proofs.lemmas.Bool.{cases_lt}
 use Rattle.ft_types.specs.Counts.{count_at}
-use Rattle.interleaving.specs.Log.{Edge, IsClosed, IsMet, IsCut, bump}
+use Rattle.interleaving.specs.Log.{Edge, IsClosed, bump}
 use Rattle.interleaving.proofs.Put.{same_or_not, bump_same, bump_other, bump_le}
-use Rattle.edge_log.specs.declared.Edge.{Edge as LogEdge}
 use Rattle.edge_log.specs.EdgeLog.{IsLog}
 use Rattle.edge_log.proofs.Logs.{in_row, of_row}
 use Rattle.guest_image.specs.Image.{ImageContents, guest_of}
@@ -14,12 +13,12 @@ use Rattle.hart_lease.specs.Runs.{counts_of}
 use Rattle.hart_replay.specs.declared.plans.PlannedLeg.{PlannedLeg}
 use Rattle.hart_replay.specs.Plans.{IsPlan, log_of}
 use Rattle.hart_replay.proofs.walking.Outcomes.{boot_so_far, booted_none}
-use Rattle.moments.specs.Line.{IsNext, Steps, Standing, standing_at, stepped, turned, Leads}
+use Rattle.moments.specs.Line.{IsNext, Steps, Standing, standing_at, Leads}
 use Rattle.moments.specs.Line.{Begins, StepsOn, TurnsOn}
-use Rattle.moments.specs.Laws.{StandsOn, CountsAreCuts}
+use Rattle.moments.specs.Laws.{CountsAreCuts}
 use Rattle.moments.specs.machinery.Kept.{IsBegun}
-use Rattle.moments.proofs.Moves.{one_leg}
-use Rattle.moments.proofs.Standings.{Holds, holds_at, counts_step, ended_counts, leg_of_all, next_base}
+use Rattle.least_cuts.proofs.Legs.{leg_of_all, next_base, one_leg}
+use Rattle.moments.proofs.Standings.{holds_at, counts_step, ended_counts}
 
 -- a line begins at boot
 pub begun_at_boot : (image : ImageContents) (legs : List PlannedLeg) (m : MachineState) → m ≡ boot_machine image → IsPlan (guest_of image) legs →

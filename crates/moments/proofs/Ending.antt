@@ -1,13 +1,13 @@
 -- A timeline whose harts are at the ends of its leg.
-use Rattle.std.proofs.Common.{◌≡◌, ℕ, ◌+◌, ◌<◌, ◌≤◌, List, length, slice_get, Some, refl, ap, sym, subst, ◌∙◌, arith}
+use Rattle.std.proofs.Common.{◌≡◌, ℕ, ◌≤◌, List, length, slice_get, Some, subst, arith}
 use Rattle.ft_types.specs.Guests.{GuestParts}
 use Rattle.hart_replay.specs.declared.plans.PlannedLeg.{PlannedLeg}
 use Rattle.hart_replay.specs.Leading.{AreAtEnds}
+use Rattle.least_cuts.proofs.Legs.{one_leg}
 use Rattle.moments.specs.Line.{LineView, Standing, IsAtEnd, steps_of}
 use Rattle.moments.specs.machinery.Kept.{IsTimeline}
 use Rattle.moments.proofs.Keeping.{ended_all, none_all}
 use Rattle.moments.proofs.Lines.{line_of, in_no_leg}
-use Rattle.moments.proofs.Moves.{one_leg}
 
 -- it is at its end, and took each step
 pub record HasEnded (v : LineView) : Type 0 where

@@ -1,10 +1,10 @@
 -- A line, as legs that were led and a leg that its harts have come along; at its end it is an outcome of the plan.
-use Rattle.std.proofs.Common.{◌≡◌, inl, inr, ℕ, ◌+◌, ◌<◌, ◌≤◌, List, [], ◌∷◌, ◌++◌, Option, Some, length, take, slice_get, refl, ap, sym, subst, ◌∙◌, arith}
+use Rattle.std.proofs.Common.{◌≡◌, ℕ, ◌+◌, List, [], ◌∷◌, ◌++◌, Option, Some, length, take, slice_get, refl, ap, sym, subst, ◌∙◌, arith}
 use Rattle.std.proofs.Math.Path.{fun_ext}
 use Rattle.std.proofs.lemmas.List.{take_all}
 use Rattle.ft_types.specs.Counts.{count_at}
 use Rattle.interleaving.specs.Machine.{Turn}
-use Rattle.interleaving.specs.Log.{Begins, bump, counts_after, turns_of}
+use Rattle.interleaving.specs.Log.{Begins, counts_after, turns_of}
 use Rattle.interleaving.specs.Stored.{run_from}
 use Rattle.input_log.specs.declared.Input.{Input}
 use Rattle.rv32_hart.specs.Hardware.{hardware}
@@ -13,18 +13,18 @@ use Rattle.guest_image.specs.Machine.{MachineState, boot_machine}
 use Rattle.hart_lease.specs.Runs.{run_of, counts_of}
 use Rattle.hart_lease.proofs.journals.Runs.{run_from-append}
 use Rattle.hart_lease.proofs.journals.Sizes.{as_large, counts_ran}
-use Rattle.log_audit.proofs.Appending.{begins_more, turns_more, counts_after_more}
+use Rattle.log_audit.proofs.Appending.{begins_more, turns_more}
 use Rattle.log_audit.proofs.Lists.{take_more}
 use Rattle.hart_replay.specs.declared.plans.PlannedLeg.{PlannedLeg}
 use Rattle.hart_replay.specs.Plans.{IsPlan, log_of}
 use Rattle.hart_replay.specs.Replays.{leg_turns, LegLeads, LegsLead, IsOutcome}
 use Rattle.hart_replay.specs.Leading.{AreAtEnds}
-use Rattle.moments.specs.Line.{IsNext, Steps, Standing, standing_at, stepped, turned, turn_in, Leads}
+use Rattle.least_cuts.proofs.Legs.{next_base, first_base, led_more, one_leg}
+use Rattle.moments.specs.Line.{IsNext, Steps, Standing, standing_at, turned, Leads}
 use Rattle.moments.specs.Line.{Begins as BeginsThere, StepsOn, TurnsOn}
-use Rattle.moments.specs.Laws.{StandsOn, EndsAreOutcomes}
+use Rattle.moments.specs.Laws.{EndsAreOutcomes}
 use Rattle.moments.specs.machinery.Kept.{IsBegun}
-use Rattle.moments.proofs.Moves.{one_leg}
-use Rattle.moments.proofs.Standings.{holds_at, ended_counts, next_base, first_base}
+use Rattle.moments.proofs.Standings.{holds_at, ended_counts}
 use Rattle.moments.proofs.Cutting.{begun_at_boot}
 
 -- in this order the leg's harts came from the one machine to the other
@@ -77,11 +77,6 @@ comes_on leg found m n order hart come next steps =
         ∙ ap (λ (c : ℕ → ℕ). c g)
         (sym (counts_ran found m (log_of leg).inputs order
         (ap (λ (c : ℕ → ℕ). run_of found (turns_of (log_of leg).inputs c order)) (sym based) ∙ come.run)))
-
--- one leg more was led
-pub led_more : (front : List PlannedLeg) (leg : PlannedLeg) (m k n : MachineState) → LegsLead front m k → LegLeads leg k n → LegsLead (front ++ leg ∷ []) m n
-led_more [] leg m k n same leads = (n, subst (λ (x : MachineState). LegLeads leg x n) same leads, refl)
-led_more (x ∷ front) leg m k n (next, first, rest) leads = (next, first, led_more front leg next k n rest leads)
 
 module _ (image : ImageContents) (legs : List PlannedLeg) (plan : IsPlan (guest_of image) legs) (start : MachineState)
     (begun : IsBegun (guest_of image) legs (standing_at start)) where

@@ -1,5 +1,5 @@
 -- At a moment there is one step.
-use Rattle.std.proofs.Common.{◌≡◌, ◌⊎◌, inl, inr, ℕ, ◌+◌, ◌<◌, ◌≤◌, List, [], ◌∷◌, All, Option, Some, None, IfSome, IfNone, length, slice_get, Contains, refl, ap, sym, subst, ◌∙◌, arith}
+use Rattle.std.proofs.Common.{◌≡◌, inl, inr, ℕ, ◌+◌, ◌<◌, ◌≤◌, List, All, Option, Some, None, IfSome, IfNone, length, slice_get, refl, ap, sym, subst, ◌∙◌, arith}
 use Rattle.std.proofs.lemmas.List.Elements.{All-contains}
 use Rattle.input_log.specs.declared.Input.{Input}
 use Rattle.rv32_hart.specs.Hart.{Hart}
@@ -10,6 +10,7 @@ use Rattle.log_audit.proofs.StepAnswers.{there_below}
 use Rattle.hart_replay.specs.declared.plans.PlannedLeg.{PlannedLeg}
 use Rattle.hart_replay.specs.Plans.{log_of}
 use Rattle.hart_replay.proofs.Fronts.{past_all}
+use Rattle.least_cuts.proofs.Legs.{one_leg, some_is}
 use Rattle.moments.specs.declared.access.Access.{Access}
 use Rattle.moments.specs.declared.access.Access.TheVariants.{Nothing}
 use Rattle.moments.specs.declared.points.Point.{Point}
@@ -19,7 +20,7 @@ use Rattle.moments.specs.Points.{IsStepFrom, StepAt, used_next, Breaks, Watches,
 use Rattle.moments.specs.machinery.Kept.{IsTurned}
 use Rattle.moments.proofs.Keeping.{leg_there}
 use Rattle.moments.proofs.Lines.{if_some, if_none}
-use Rattle.moments.proofs.Moves.{Move, one_leg, one_next, none_at_ends, some_is, parted, along, later}
+use Rattle.moments.proofs.Moves.{Move, one_next, none_at_ends, parted, along, later}
 use Rattle.moments.proofs.Moves.{Step, Turn}
 
 -- of two standings at one moment, the second of which has a step, the first leads to the second by turns alone

@@ -1,5 +1,5 @@
 -- Which interrupt a hart takes once its inputs are received.
-use Rattle.std.proofs.Common.{◌≡◌, ◌≢◌, ◌↔◌, inl, inr, ℕ, ◌+◌, ◌*◌, ◌/◌, ◌%◌, ◌^◌, ◌==◌, ◌||◌, List, [], ◌∷◌, ◌++◌, take, slice_get, Bool, true, false, Option, Some, None, IsTrue, IsSome, bit_and, bit_or, if◌then◌else◌, refl, ap, sym, subst, ◌∙◌}
+use Rattle.std.proofs.Common.{◌≡◌, ◌≢◌, ◌↔◌, inl, inr, ℕ, ◌+◌, ◌*◌, ◌/◌, ◌%◌, ◌^◌, ◌==◌, List, [], ◌∷◌, ◌++◌, take, slice_get, Bool, true, false, Option, Some, None, IsTrue, IsSome, bit_and, bit_or, if◌then◌else◌, refl, ap, sym, subst, ◌∙◌}
 use Rattle.std.proofs.lemmas.Bool.Decides.{eqb_tells}
 use Rattle.input_log.specs.declared.Input.{Input}
 use Rattle.input_log.specs.declared.Input.TheVariants.{Timer, Word, Bell}
@@ -51,15 +51,6 @@ mie_bit c = of c.mstatus_mpie c.mstatus_mie
     of true false = refl
     of false true = refl
     of false false = refl
-
-some_of : (a b c : Bool) (x y z : ℕ) → IsSome (if a then Some x else (if b then Some y else (if c then Some z else None))) ↔ IsTrue (a || b || c)
-some_of true b c x y z = (λ s. refl, λ s. refl)
-some_of false true c x y z = (λ s. refl, λ s. refl)
-some_of false false true x y z = (λ s. refl, λ s. refl)
-some_of false false false x y z = (λ s. s, λ s. s)
-
-pub some_interrupt : (set : ℕ) → IsSome (first_interrupt set) ↔ IsTrue (bit 11 set || bit 3 set || bit 7 set)
-some_interrupt set = some_of (bit 11 set) (bit 3 set) (bit 7 set) _ _ _
 
 -- one input more is received
 mip_more : (inputs : List Input) (i : Input) (mip : ℕ) → mip_after (inputs ++ i ∷ []) mip ≡ bit_or (mip_after inputs mip) (bit_of i)

@@ -1,15 +1,14 @@
 -- A timeline that begins, and one that goes to a snapshot.
-use Rattle.std.proofs.Common.{◌≡◌, ◌⊎◌, inl, inr, ℕ, ◌+◌, ◌-◌, ◌<◌, ◌≤◌, List, [], ◌∷◌, map, length, Contains, refl, ap, sym, subst, ◌∙◌, arith}
+use Rattle.std.proofs.Common.{◌≡◌, ◌⊎◌, inl, inr, ℕ, ◌-◌, ◌≤◌, List, [], map, length, Contains, ap, sym, subst, ◌∙◌, arith}
 use Rattle.ft_types.specs.Guests.{GuestParts}
 use Rattle.guest_image.specs.Image.{ImageContents, guest_of}
 use Rattle.guest_image.specs.Machine.{MachineState, boot_machine}
-use Rattle.hart_lease.specs.Runs.{counts_of}
 use Rattle.hart_replay.specs.declared.plans.PlannedLeg.{PlannedLeg}
 use Rattle.hart_replay.specs.Plans.{IsPlan}
 use Rattle.moments.specs.declared.snapshots.Snapshot.{Snapshot}
 use Rattle.moments.specs.Line.{LineView, Standing, standing_at, Leads}
 use Rattle.moments.specs.Line.{Begins}
-use Rattle.moments.specs.machinery.Machines.{machine_of, standing_of}
+use Rattle.moments.specs.machinery.Machines.{standing_of}
 use Rattle.moments.specs.machinery.Kept.{IsBegun, Stands, IsTimeline, QuietAt, IsTurned, OnLine}
 use Rattle.moments.proofs.Cutting.{begun_at_boot}
 use Rattle.moments.proofs.Lines.{line_of, kept_stands, first_stands, on_line}
@@ -57,31 +56,3 @@ module _ (guest : GuestParts) (legs : List PlannedLeg) (begin : Snapshot) (now :
   copy_on v view among =
       on_line guest legs (standing_of begin) now (map standing_of kept) stops is v view (standing_of copy)
       (subst (λ (s : Standing). Stands legs (standing_of begin) s) (sym same) (there_stands among))
-
-  -- at which a hart has fewer steps, or which is the first
-  pub copy_below : (hart count : ℕ) (next : Standing) → next.moment ≡ copy.moment → next.machine ≡ machine_of copy.machine →
-      (there ≡ begin) ⊎ (counts_of (machine_of there.machine) hart < count) → (next.moment ≡ 0) ⊎ (counts_of next.machine hart < count)
-  copy_below hart count next moment machine below =
-      elim below [
-        | inl first ↦
-            inl (moment ∙ ap (λ (s : Standing). s.moment) same ∙ ap (λ (s : Snapshot). s.moment) first
-            ∙ first_moment guest legs (standing_of begin) is.begun)
-        | inr less ↦
-            let as_many : counts_of next.machine hart ≡ counts_of (machine_of there.machine) hart =
-            ap (λ (m : MachineState). counts_of m hart) (machine ∙ ap (λ (s : Standing). s.machine) same) in
-            inr (omega (arith, as_many, less))
-      ]
-
-  -- and so no more than so many
-  pub copy_most : (hart count : ℕ) (next : Standing) → next.machine ≡ machine_of copy.machine →
-      (there ≡ begin) ⊎ (counts_of (machine_of there.machine) hart < count) → counts_of next.machine hart ≤ count
-  copy_most hart count next machine below =
-      let as_many : counts_of next.machine hart ≡ counts_of (machine_of there.machine) hart =
-      ap (λ (m : MachineState). counts_of m hart) (machine ∙ ap (λ (s : Standing). s.machine) same) in
-      elim below [
-        | inl first ↦
-            let none : counts_of (machine_of there.machine) hart ≡ 0 =
-            ap (λ (s : Snapshot). counts_of (machine_of s.machine) hart) first ∙ is.begun.boot hart in
-            omega (arith, as_many, none)
-        | inr less ↦ omega (arith, as_many, less)
-      ]

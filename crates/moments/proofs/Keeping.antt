@@ -1,14 +1,11 @@
 -- What a timeline keeps, from what its code has.
-use Rattle.std.proofs.Common.{◌≡◌, ◌⊎◌, inl, inr, ℕ, zero, suc, ◌+◌, ◌-◌, ◌<◌, ◌≤◌, List, [], ◌∷◌, length, Option, Some, None, slice_get, Contains, refl, ap, sym, subst, ◌∙◌, arith}
-use Rattle.std.specs.List.{AllByRecursion}
+use Rattle.std.proofs.Common.{◌≡◌, ◌⊎◌, inl, inr, ℕ, zero, suc, ◌+◌, ◌-◌, ◌<◌, ◌≤◌, List, [], ◌∷◌, length, Some, slice_get, refl, ap, arith}
 use Rattle.ft_types.specs.Guests.{GuestParts}
-use Rattle.guest_image.specs.Machine.{MachineState}
 use Rattle.hart_replay.specs.declared.plans.PlannedLeg.{PlannedLeg}
 use Rattle.hart_replay.specs.Leading.{AreAtEnds}
-use Rattle.hart_replay.proofs.Fronts.{at_place}
-use Rattle.moments.specs.Line.{IsNext, Steps, Standing, standing_at, stepped, Leads, steps_of}
+use Rattle.moments.specs.Line.{IsNext, Standing, Leads, steps_of}
 use Rattle.moments.specs.Line.{Begins, StepsOn, TurnsOn}
-use Rattle.moments.specs.machinery.Kept.{IsBegun, Stands, IsTimeline, QuietAt, IsTurned}
+use Rattle.moments.specs.machinery.Kept.{IsBegun, Stands, IsTurned}
 use Rattle.moments.proofs.Standings.{holds_at, room, within_all, all_taken}
 
 -- where there is no leg the line leads nowhere

@@ -1,4 +1,3 @@
-pub mod Sums
 pub mod Moves
 pub mod Standings
 pub mod Parts
@@ -11,8 +10,6 @@ pub mod Lines
 pub mod Jumping
 pub mod Ending
 pub mod Taking
-pub mod Raised
-pub mod LegsWith
 pub mod Cutting
 pub mod Histories
 pub mod Hits
@@ -23,4 +20,6 @@ pub mod Rises
 pub mod Interrupts
 pub mod Uses
 pub mod Telling
-pub mod Trimmed
+pub mod Regular
+pub mod Written
+pub mod Seen

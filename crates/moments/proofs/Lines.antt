@@ -1,5 +1,5 @@
 -- What a timeline tells of its line, from what it keeps.
-use Rattle.std.proofs.Common.{◌≡◌, ◌⊎◌, inl, inr, ℕ, ◌+◌, ◌-◌, ◌<◌, ◌≤◌, List, [], ◌∷◌, ◌++◌, map, length, Option, Some, None, IfSome, IfNone, slice_get, Contains, refl, ap, sym, subst, ◌∙◌, arith}
+use Rattle.std.proofs.Common.{◌≡◌, inl, inr, ℕ, ◌+◌, ◌-◌, ◌<◌, ◌≤◌, List, [], ◌∷◌, ◌++◌, map, length, Option, Some, None, IfSome, IfNone, slice_get, Contains, refl, ap, sym, subst, ◌∙◌, arith}
 use Rattle.std.specs.List.{AllByRecursion}
 use Rattle.ft_types.specs.Counts.{count_at}
 use Rattle.ft_types.specs.Guests.{GuestParts}
@@ -8,13 +8,13 @@ use Rattle.guest_image.specs.Machine.{MachineState}
 use Rattle.hart_lease.specs.Runs.{counts_of}
 use Rattle.hart_replay.specs.declared.plans.PlannedLeg.{PlannedLeg}
 use Rattle.hart_replay.proofs.Fronts.{there}
+use Rattle.least_cuts.proofs.Legs.{one_leg}
 use Rattle.moments.specs.declared.snapshots.Snapshot.{Snapshot}
-use Rattle.moments.specs.Line.{LineView, InLeg, IsAt, IsNext, NoneMayGo, Steps, Standing, standing_at, stepped, Leads, HasGoneOn, ends_of, steps_of}
-use Rattle.moments.specs.Line.{Begins, StepsOn}
+use Rattle.moments.specs.Line.{LineView, InLeg, IsAt, IsNext, NoneMayGo, Standing, standing_at, Leads, ends_of, steps_of}
+use Rattle.moments.specs.Line.{Begins}
 use Rattle.moments.specs.machinery.Machines.{standing_of}
 use Rattle.moments.specs.machinery.Kept.{IsBegun, Stands, IsTimeline, AreQuiet, QuietAt, IsTurned, OnLine}
-use Rattle.moments.proofs.Moves.{one_leg}
-use Rattle.moments.proofs.Keeping.{moment_within, step_room, leg_there}
+use Rattle.moments.proofs.Keeping.{moment_within}
 use Rattle.moments.proofs.Standings.{last_is}
 use Rattle.moments.proofs.Rises.{counts_most, counts_all}
 
@@ -38,13 +38,6 @@ leg_below legs place leg at = (there legs place leg at).0
 -- where the last leg ends
 pub ends_last : (legs : List PlannedLeg) (leg : PlannedLeg) → Some leg ≡ slice_get legs (length legs - 1) → leg.ends ≡ ends_of legs
 ends_last legs leg is = last_is legs (length legs - 1) leg (sym is) (omega arith)
-
-pub ends_none : (legs : List PlannedLeg) → None ≡ slice_get legs (length legs - 1) → ends_of legs ≡ []
-ends_none [] is = refl
-ends_none (x ∷ legs) is =
-    let (leg, at) = leg_there (x ∷ legs) (length (x ∷ legs) - 1) (omega arith) in
-    let both : None ≡ Some leg = is ∙ at in
-    cc
 
 -- each kept snapshot is on the line
 pub kept_stands : (legs : List PlannedLeg) (first : Standing) (kept : List Snapshot) (s : Snapshot) →
@@ -95,26 +88,6 @@ module _ (guest : GuestParts) (legs : List PlannedLeg) (first now : Standing) (s
   of_line v view t on =
       subst (λ (s : Standing). Stands legs s t) (sym is.begun.is) (subst (λ (u : LineView). OnLine u t) (sym view) on)
 
-  -- one step more, and turns
-  pub gone_on : (leg : PlannedLeg) (hart : ℕ) (went next : Standing) (marks : List ℕ) → slice_get legs now.place ≡ Some leg → IsNext leg now.machine hart →
-      Steps leg now.machine hart went.machine → went.place ≡ now.place → went.moment ≡ now.moment + 1 →
-      ((s : Standing) → Leads legs s went → Leads legs s next) → next.place ≤ length legs - 1 → IsTurned legs next → QuietAt legs next marks →
-      IsTimeline guest legs first next snapshots marks
-  gone_on leg hart went next marks at comes steps place moment on within turned quiet =
-      record {
-        begun = is.begun;
-        stands = record { leads = on first leads; place = within };
-        kept = is.kept;
-        turned = turned;
-        quiet = quiet;
-      }
-    where
-      same : stepped now went.machine ≡ went
-      same = λ i. record { place = sym place i; moment = sym moment i; machine = went.machine }
-
-      leads : Leads legs first went
-      leads = subst (λ (s : Standing). Leads legs first s) same (StepsOn leg hart went.machine is.stands.leads at comes steps)
-
   -- it stands elsewhere on its line
   pub jumped : (there next : Standing) (marks : List ℕ) → Stands legs first there → ((s : Standing) → Leads legs s there → Leads legs s next) →
       next.place ≤ length legs - 1 → IsTurned legs next → QuietAt legs next marks → IsTimeline guest legs first next snapshots marks
@@ -151,25 +124,6 @@ module _ (guest : GuestParts) (legs : List PlannedLeg) (first now : Standing) (s
         quiet = is.quiet;
       })
 
-  -- the hart that comes next, as contracts say it
-  pub next_inside : (v : LineView) → line_of guest legs first now ≡ v → (leg : PlannedLeg) (hart : ℕ) → slice_get legs now.place ≡ Some leg →
-      InLeg v (λ l. IsNext l v.stands.machine hart) → IsNext leg now.machine hart
-  next_inside v view leg hart at next =
-      subst (λ (u : LineView). InLeg u (λ l. IsNext l u.stands.machine hart)) (sym view) next leg at
-
-  pub room_inside : (leg : PlannedLeg) (hart last : ℕ) → slice_get legs now.place ≡ Some leg → IsNext leg now.machine hart → last ≡ steps_of legs →
-      now.moment < last
-  room_inside leg hart last at next all =
-      let room = step_room guest legs first is.begun now leg hart is.stands at next in omega (arith, room, all)
-
-  -- one step further on
-  pub gone_line : (v : LineView) → line_of guest legs first now ≡ v → (next : Standing) → next.moment ≡ now.moment + 1 →
-      HasGoneOn v (line_of guest legs first next) 1
-  gone_line v view next one = (
-    ap (λ (u : LineView). record u { stands = next }) view,
-    one ∙ ap (λ (u : LineView). u.stands.moment + 1) view,
-  )
-
   -- elsewhere on its line
   pub moved_line : (v : LineView) → line_of guest legs first now ≡ v → (next : Standing) → line_of guest legs first next ≡ record v { stands = next }
   moved_line v view next = ap (λ (u : LineView). record u { stands = next }) view
@@ -197,7 +151,7 @@ module _ (guest : GuestParts) (legs : List PlannedLeg) (first now : Standing) (s
     at_inside = subst (λ (u : LineView). slice_get u.legs u.stands.place ≡ Some leg) (sym view) at
 
     pub quiet_there : AreQuiet leg now.machine stops
-    quiet_there = is.quiet.1 leg at_inside
+    quiet_there = is.quiet leg at_inside
 
     pub next_there : (result : Option ℕ) → IfSome result (λ hart. IsNext leg now.machine hart) →
         IfSome result (λ hart. InLeg v (λ l. IsNext l v.stands.machine hart))
@@ -223,7 +177,3 @@ module _ (guest : GuestParts) (legs : List PlannedLeg) (first now : Standing) (s
 -- where no leg is, nothing is said of it
 pub in_no_leg : (v : LineView) (P : PlannedLeg → Type 0) → length v.legs ≤ v.stands.place → InLeg v P
 in_no_leg v P over leg at = let lt = leg_below v.legs v.stands.place leg at in absurd (omega (arith, lt, over))
-
--- what holds of the leg that was found
-pub in_this_leg : (v : LineView) (P : PlannedLeg → Type 0) (leg : PlannedLeg) → slice_get v.legs v.stands.place ≡ Some leg → P leg → InLeg v P
-in_this_leg v P leg at holds other found = subst P (one_leg v.legs v.stands.place leg other at found) holds

@@ -1,25 +1,18 @@
 -- The line is one: from each standing at most one move leads on.
-use Rattle.std.proofs.Common.{◌≡◌, ◌⊎◌, inl, inr, ℕ, ◌+◌, ◌<◌, ◌≤◌, List, [], ◌∷◌, Option, Some, None, length, slice_get, true, false, Bool, refl, ap, sym, subst, ◌∙◌}
-use Rattle.std.proofs.Common.{arith, if◌then◌else◌}
+use Rattle.std.proofs.Common.{◌≡◌, ◌⊎◌, inl, inr, ℕ, ◌<◌, ◌≤◌, List, [], ◌∷◌, Option, Some, length, slice_get, true, false, refl, ap, sym, subst, ◌∙◌, arith}
 use Rattle.std.proofs.lemmas.Bool.{cases_lt}
-use Rattle.ft_types.specs.Counts.{count_at}
 use Rattle.interleaving.specs.Stored.{halted_of}
 use Rattle.rv32_hart.specs.Hart.{Hart}
 use Rattle.rv32_hart.specs.Hardware.{hardware}
 use Rattle.guest_image.specs.Machine.{MachineState}
-use Rattle.hart_lease.specs.Runs.{run_of, counts_of}
+use Rattle.hart_lease.specs.Runs.{run_of}
 use Rattle.hart_replay.specs.declared.plans.PlannedLeg.{PlannedLeg}
 use Rattle.hart_replay.specs.Replays.{is_halted}
 use Rattle.hart_replay.specs.Leading.{AreAtEnds}
 use Rattle.hart_replay.proofs.Fronts.{past_all}
-use Rattle.moments.specs.Line.{MayGo, IsNext, ComesFirst, Steps, Standing, stepped, turned, turn_in, Leads}
+use Rattle.least_cuts.proofs.Legs.{one_leg, some_is}
+use Rattle.moments.specs.Line.{MayGo, IsNext, Steps, Standing, stepped, turned, turn_in, Leads}
 use Rattle.moments.specs.Line.{Begins, StepsOn, TurnsOn}
-
-pub some_is : {A : Type 0} (x y : A) → Some x ≡ Some y → x ≡ y
-some_is x y e = cc
-
-pub one_leg : (legs : List PlannedLeg) (place : ℕ) (leg other : PlannedLeg) → slice_get legs place ≡ Some leg → slice_get legs place ≡ Some other → leg ≡ other
-one_leg legs place leg other is was = some_is leg other (sym is ∙ was)
 
 -- a hart that runs is there
 pub runs_there : (m : MachineState) (hart : ℕ) → is_halted m hart ≡ false → hart < length m.harts

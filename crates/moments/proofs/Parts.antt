@@ -1,12 +1,12 @@
 -- Pages of parts.
-use Rattle.std.proofs.Common.{◌≡◌, ℕ, zero, suc, ◌+◌, ◌<◌, ◌≤◌, List, [], ◌∷◌, ◌++◌, map, take, length, length-set, inl, inr, slice_get, slice_set, slice_index_or, option_map, Some, Bool, true, false, refl, ap, sym, subst, ◌∙◌, arith}
+use Rattle.std.proofs.Common.{◌≡◌, ℕ, zero, suc, ◌+◌, ◌<◌, ◌≤◌, List, [], ◌∷◌, ◌++◌, map, take, length, length-set, inl, inr, slice_get, slice_set, slice_index_or, option_map, Some, true, false, refl, ap, sym, subst, ◌∙◌, arith}
 use Rattle.std.proofs.Math.Seq.{map-set_same}
 use Rattle.std.proofs.lemmas.List.{map-append, map-set, get_or-set_same, get_or-set_other}
 use Rattle.std.proofs.lemmas.Option.{slice_get-map}
 use Rattle.ft_types.specs.declared.names.TheConstants.{PAGE_LIMIT}
 use Rattle.interleaving.proofs.Put.{same_or_not}
 use Rattle.log_audit.proofs.Lists.{take_more, get_at}
-use Rattle.rv32_hart.specs.Ram.{Ram, IsRam, with_page, page_of}
+use Rattle.rv32_hart.specs.Ram.{IsRam, with_page, page_of}
 use Rattle.moments.specs.declared.ram.Part.{Part}
 use Rattle.moments.specs.declared.ram.Part.TheVariants.{Own}
 use Rattle.moments.specs.machinery.Parts.{bytes_of, is_own, contents_of, owned, ram_of}

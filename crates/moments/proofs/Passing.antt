@@ -1,5 +1,5 @@
 -- Whether a hart may go, from what its log has at its count.
-use Rattle.std.proofs.Common.{◌≡◌, inl, inr, ℕ, ◌+◌, ◌-◌, ◌<◌, ◌≤◌, ◌==◌, ◌↔◌, Bool, true, false, List, [], ◌∷◌, length, filter, All, Contains, slice_get, slice_index_or, Option, Some, IsTrue, refl, ap, sym, subst, ◌∙◌, arith}
+use Rattle.std.proofs.Common.{◌≡◌, inl, inr, ℕ, ◌-◌, ◌<◌, ◌≤◌, ◌==◌, ◌↔◌, Bool, true, false, List, length, filter, All, Contains, slice_get, slice_index_or, Option, Some, IsTrue, ap, sym, subst, ◌∙◌, arith}
 use Rattle.std.proofs.lemmas.Bool.Decides.{eqb_tells}
 use Rattle.std.proofs.lemmas.List.{get_or_default}
 use Rattle.std.proofs.lemmas.List.Elements.{All-contains}
@@ -12,11 +12,10 @@ use Rattle.interleaving.specs.Stored.{halted_of}
 use Rattle.rv32_hart.specs.Hart.{Hart}
 use Rattle.rv32_hart.specs.Hardware.{hardware}
 use Rattle.guest_image.specs.Machine.{MachineState}
-use Rattle.hart_lease.specs.Runs.{counts_of, steps_taken}
+use Rattle.hart_lease.specs.Runs.{counts_of}
 use Rattle.hart_replay.specs.declared.plans.PlannedLeg.{PlannedLeg}
 use Rattle.hart_replay.specs.Plans.{log_of}
 use Rattle.hart_replay.specs.Replays.{is_halted}
-use Rattle.log_audit.specs.machinery.Covered.{IsQuietTo}
 use Rattle.log_audit.proofs.Bringing.{in_filter, of_filter}
 use Rattle.moments.specs.Line.{MayGo}
 
@@ -54,16 +53,6 @@ module _ (leg : PlannedLeg) (hart count : ℕ) (now : ℕ → ℕ) (count_is : c
       IsTrue met ↔ ((count < count_at leg.ends hart) × IsMet (log_of leg).edges now hart)
   both_met end is below met exact = (λ so. (omega (arith, is, below), met_of_all (exact.0 so)), λ both. exact.1 (all_of_met both.1))
 
--- below its stop a hart that runs may go
-pub quiet_may : (leg : PlannedLeg) (m : MachineState) (hart stop : ℕ) → IsQuietTo leg hart (counts_of m hart) stop → is_halted m hart ≡ false →
-    counts_of m hart < stop → MayGo leg m hart
-quiet_may leg m hart stop quiet runs lt =
-    record {
-      runs = runs;
-      below = let within = quiet.within in omega (arith, within, lt);
-      met = λ e has own at. let from = quiet.edges e has own (omega (arith, at)) in absurd (omega (arith, from, at, lt));
-    }
-
 -- ---- from what a hart's state tells
 
 runs_so : (m : MachineState) (hart : ℕ) (h : Hart) → slice_get m.harts hart ≡ Some h → is_halted m hart ≡ h.halted
@@ -71,12 +60,6 @@ runs_so m hart h found = ap (λ (o : Option Hart). halted_of (hardware (length m
 
 pub halted_stays : (leg : PlannedLeg) (m : MachineState) (hart : ℕ) (h : Hart) → slice_get m.harts hart ≡ Some h → h.halted ≡ true → MayGo leg m hart → ⊥
 halted_stays leg m hart h found halted may = true_or_false (sym halted ∙ sym (runs_so m hart h found) ∙ may.runs)
-
-pub below_stop : (leg : PlannedLeg) (m : MachineState) (hart stop : ℕ) (h : Hart) → slice_get m.harts hart ≡ Some h → h.halted ≡ false →
-    IsQuietTo leg hart (counts_of m hart) stop → h.count < stop → MayGo leg m hart
-below_stop leg m hart stop h found runs quiet lt =
-    let own : counts_of m hart ≡ h.count = ap steps_taken found in
-    quiet_may leg m hart stop quiet (runs_so m hart h found ∙ runs) (omega (arith, own, lt))
 
 pub passes : (leg : PlannedLeg) (m : MachineState) (hart count : ℕ) (h : Hart) (result : Bool) → slice_get m.harts hart ≡ Some h → h.halted ≡ false →
     count ≡ counts_of m hart → IsTrue result ↔ ((count < count_at leg.ends hart) × IsMet (log_of leg).edges (counts_of m) hart) →

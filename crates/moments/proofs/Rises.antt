@@ -1,5 +1,5 @@
 -- The counts along a line: none falls, and a step adds one to one of them.
-use Rattle.std.proofs.Common.{◌≡◌, ◌⊎◌, inl, inr, ℕ, zero, suc, ◌+◌, ◌<◌, ◌≤◌, Bool, true, false, List, length, Option, Some, slice_get, refl, ap, sym, subst, ◌∙◌, arith}
+use Rattle.std.proofs.Common.{◌≡◌, ◌⊎◌, inl, inr, ℕ, zero, suc, ◌+◌, ◌<◌, ◌≤◌, Bool, true, false, List, length, Some, slice_get, refl, ap, subst, arith}
 use Rattle.std.proofs.Math.ListN.{get_or-eq_default}
 use Rattle.std.proofs.lemmas.Bool.{cases_lt}
 use Rattle.ft_types.specs.Counts.{count_at}
@@ -9,14 +9,13 @@ use Rattle.interleaving.proofs.Put.{same_or_not, bump_same, bump_other, bump_le}
 use Rattle.guest_image.specs.Machine.{MachineState}
 use Rattle.hart_lease.specs.Runs.{counts_of, steps_taken}
 use Rattle.hart_replay.specs.declared.plans.PlannedLeg.{PlannedLeg}
-use Rattle.hart_replay.specs.Plans.{IsPlan}
 use Rattle.hart_replay.proofs.Fronts.{past_all}
-use Rattle.moments.specs.Line.{LineView, Steps, Standing, standing_at, stepped, Leads, IsAt, ends_of, steps_of}
+use Rattle.moments.specs.Line.{LineView, Standing, standing_at, stepped, Leads, IsAt, ends_of, steps_of}
 use Rattle.moments.specs.Line.{Begins, StepsOn, TurnsOn}
 use Rattle.moments.specs.machinery.Kept.{IsBegun}
-use Rattle.moments.proofs.Moves.{along, later, one_machine, same_moment}
+use Rattle.moments.proofs.Moves.{along, later, same_moment}
 use Rattle.moments.proofs.Standings.{Holds, holds_at, counts_step, ends_below}
-use Rattle.moments.proofs.Sums.{upto, upto_less, upto_sum, upto_more}
+use Rattle.least_cuts.proofs.Sums.{upto_less, upto_sum, upto_more}
 
 bump_most : (now : ℕ → ℕ) (hart h : ℕ) → bump now hart h ≤ now h + 1
 bump_most now hart h =

@@ -1,5 +1,5 @@
 -- What holds of each standing of a plan's line: its moment is the sum of its counts, none of which is past its leg's end.
-use Rattle.std.proofs.Common.{◌≡◌, inl, inr, ℕ, zero, suc, ◌+◌, ◌<◌, ◌≤◌, List, [], ◌∷◌, All, Option, Some, None, length, slice_get, sum, refl, ap, sym, subst, ◌∙◌, arith}
+use Rattle.std.proofs.Common.{◌≡◌, inl, inr, ℕ, zero, suc, ◌+◌, ◌<◌, ◌≤◌, List, [], ◌∷◌, All, Some, length, slice_get, sum, refl, ap, sym, ◌∙◌, arith}
 use Rattle.std.proofs.lemmas.Bool.{cases_lt}
 use Rattle.std.proofs.lemmas.List.Elements.{All-head, All-tail}
 use Rattle.ft_types.specs.Counts.{count_at}
@@ -7,43 +7,18 @@ use Rattle.ft_types.specs.Guests.{GuestParts}
 use Rattle.interleaving.specs.Log.{bump}
 use Rattle.interleaving.proofs.Put.{same_or_not, bump_same, bump_other}
 use Rattle.guest_image.specs.Machine.{MachineState}
-use Rattle.hart_lease.specs.Runs.{run_of, counts_of, steps_taken}
+use Rattle.hart_lease.specs.Runs.{counts_of, steps_taken}
 use Rattle.hart_lease.proofs.journals.Sizes.{as_large, counts_ran}
 use Rattle.hart_replay.specs.declared.plans.PlannedLeg.{PlannedLeg}
 use Rattle.hart_replay.specs.Plans.{IsLeg, IsPlan, GoOn, log_of}
 use Rattle.hart_replay.specs.Leading.{AreAtEnds}
 use Rattle.hart_replay.proofs.Fronts.{past_all}
-use Rattle.moments.specs.Line.{MayGo, IsNext, Steps, Standing, standing_at, stepped, turned, turn_in, Leads, ends_of, steps_of}
+use Rattle.least_cuts.proofs.Legs.{leg_of_all, next_base, first_base, one_leg}
+use Rattle.moments.specs.Line.{IsNext, Steps, Standing, stepped, turned, turn_in, Leads, ends_of, steps_of}
 use Rattle.moments.specs.Line.{Begins, StepsOn, TurnsOn}
 use Rattle.moments.specs.machinery.Kept.{IsBegun}
-use Rattle.moments.proofs.Sums.{upto, upto_same, upto_less, upto_bump, upto_zero, upto_within, upto_sum, upto_more}
-use Rattle.moments.proofs.Moves.{runs_there, one_leg}
-
--- ---- legs of a plan
-
-pub leg_of_all : (many : ℕ) (legs : List PlannedLeg) (place : ℕ) (leg : PlannedLeg) → All (IsLeg many) legs → slice_get legs place ≡ Some leg → IsLeg many leg
-leg_of_all many [] place leg all is = cc
-leg_of_all many (x ∷ legs) zero leg all is = let same : x ≡ leg = cc in subst (IsLeg many) same (All-head (IsLeg many) x legs all)
-leg_of_all many (x ∷ legs) (suc place) leg all is = leg_of_all many legs place leg (All-tail (IsLeg many) x legs all) is
-
--- the next leg begins where one ends
-pub next_base : (now : ℕ → ℕ) (legs : List PlannedLeg) (place next : ℕ) (leg other : PlannedLeg) → GoOn now legs → next ≡ place + 1 →
-    slice_get legs place ≡ Some leg → slice_get legs next ≡ Some other → (hart : ℕ) → count_at other.base hart ≡ count_at leg.ends hart
-next_base now [] place next leg other on is at there hart = cc
-next_base now (x ∷ legs) place zero leg other on is at there hart = absurd (omega (arith, is))
-next_base now (x ∷ []) zero (suc next) leg other on is at there hart = cc
-next_base now (x ∷ y ∷ legs) zero (suc next) leg other on is at there hart =
-    let first : next ≡ 0 = omega (arith, is) in
-    let same : x ≡ leg = cc in
-    let found : Some y ≡ Some other = ap (slice_get (y ∷ legs)) (sym first) ∙ there in
-    let second : y ≡ other = cc in
-    ap (λ (l : PlannedLeg). count_at l.base hart) (sym second) ∙ on.1.0 hart ∙ ap (λ (l : PlannedLeg). count_at l.ends hart) same
-next_base now (x ∷ legs) (suc place) (suc next) leg other on is at there hart =
-    next_base (count_at x.ends) legs place next leg other on.1 (omega (arith, is)) at there hart
-
-pub first_base : (now : ℕ → ℕ) (legs : List PlannedLeg) (leg : PlannedLeg) → GoOn now legs → slice_get legs 0 ≡ Some leg → (hart : ℕ) → count_at leg.base hart ≡ now hart
-first_base now [] leg on is hart = cc
-first_base now (x ∷ legs) leg on is hart = let same : x ≡ leg = cc in ap (λ (l : PlannedLeg). count_at l.base hart) (sym same) ∙ on.0 hart
+use Rattle.least_cuts.proofs.Sums.{upto, upto_same, upto_less, upto_bump, upto_zero, upto_within, upto_sum, upto_more}
+use Rattle.moments.proofs.Moves.{runs_there}
 
 -- no leg ends behind the last one
 pub ends_below : (many : ℕ) (now : ℕ → ℕ) (legs : List PlannedLeg) (place : ℕ) (leg : PlannedLeg) → All (IsLeg many) legs → GoOn now legs →

@@ -1,5 +1,5 @@
 -- A step of a hart on shared RAM.
-use Rattle.std.proofs.Common.{◌≡◌, ℕ, zero, suc, ◌+◌, ◌-◌, ◌<◌, ◌^◌, Bool, true, false, List, [], ◌∷◌, length, map, slice_get, slice_set, slice_index_or, Option, Some, None, refl, ap}
+use Rattle.std.proofs.Common.{◌≡◌, ℕ, zero, suc, ◌+◌, ◌-◌, ◌<◌, ◌^◌, Bool, true, false, List, [], ◌∷◌, length, slice_get, slice_set, slice_index_or, Some, refl, ap}
 use Rattle.std.proofs.Common.{sym, subst, ◌∙◌, arith}
 use Rattle.std.proofs.lemmas.List.{length-map}
 use Rattle.interleaving.specs.Machine.{Effect}
@@ -9,7 +9,7 @@ use Rattle.ft_types.specs.declared.names.Want.TheVariants.{Read, Write}
 use Rattle.input_log.specs.declared.Input.{Input}
 use Rattle.rv32_hart.specs.Hart.{Hart}
 use Rattle.rv32_hart.specs.Ram.{Ram}
-use Rattle.rv32_hart.specs.Step.{IsTaken, IsMissing, effect, effect_on}
+use Rattle.rv32_hart.specs.Step.{IsTaken, IsMissing, effect}
 use Rattle.rv32_hart.proofs.Wanted.{missing_there}
 use Rattle.guest_image.specs.Machine.{MachineState}
 use Rattle.log_audit.proofs.Asking.{lacking}

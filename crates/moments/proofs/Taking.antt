@@ -1,56 +1,64 @@
 -- A timeline that takes the step that comes next.
-use Rattle.std.proofs.Common.{◌≡◌, ℕ, ◌+◌, ◌-◌, ◌<◌, ◌≤◌, List, length, slice_get, slice_index_or, Some, refl, ap, sym, subst, ◌∙◌, arith}
+use Rattle.std.proofs.Common.{◌≡◌, ℕ, ◌+◌, ◌-◌, ◌<◌, ◌≤◌, List, length, slice_get, slice_index_or, Some, ap, sym, subst, ◌∙◌, arith}
 use Rattle.ft_types.specs.Guests.{GuestParts}
-use Rattle.ft_types.specs.declared.names.TheConstants.{HART_ROW}
-use Rattle.guest_image.specs.Machine.{MachineState}
 use Rattle.hart_replay.specs.declared.plans.PlannedLeg.{PlannedLeg}
 use Rattle.hart_replay.proofs.Fronts.{at_place}
-use Rattle.moments.specs.Line.{LineView, InLeg, IsNext, Standing, steps_of}
-use Rattle.moments.specs.machinery.Kept.{IsTimeline, AreQuiet, QuietAt}
-use Rattle.moments.proofs.Lines.{line_of, next_inside, room_inside}
-use Rattle.moments.proofs.Moves.{one_leg}
+use Rattle.least_cuts.proofs.Legs.{one_leg}
+use Rattle.moments.specs.Line.{LineView, InLeg, IsNext, Steps, Standing, stepped, Leads, steps_of}
+use Rattle.moments.specs.Line.{StepsOn}
+use Rattle.moments.specs.machinery.Kept.{IsTimeline, AreQuiet, QuietAt, IsTurned}
+use Rattle.moments.proofs.Keeping.{step_room}
+use Rattle.moments.proofs.Lines.{line_of}
 
 module _ (guest : GuestParts) (legs : List PlannedLeg) (first now : Standing) (snapshots : List Standing) (stops : List ℕ)
     (is : IsTimeline guest legs first now snapshots stops) (v : LineView) (view : line_of guest legs first now ≡ v)
     (place : v.stands.place < length v.legs) where
-  place_here : now.place < length legs
-  place_here = subst (λ (u : LineView). u.stands.place < length u.legs) (sym view) place
-
-  -- there is a leg at its place
-  pub place_in : (shown : List PlannedLeg) → shown ≡ legs → now.place < length shown
-  place_in shown same = let lt = place_here in let many : length shown ≡ length legs = ap length same in omega (arith, lt, many)
-
-  pub leg_here : (shown : List PlannedLeg) → shown ≡ legs → (leg : PlannedLeg) → leg ≡ slice_index_or shown now.place leg →
-      slice_get legs now.place ≡ Some leg
-  leg_here shown same leg found =
-      ap (λ (l : List PlannedLeg). slice_get l now.place) (sym same) ∙ at_place shown now.place leg (place_in shown same) found
-
-  module _ (hart : ℕ) (there : hart < length v.stands.machine.harts) (next : InLeg v (λ leg. IsNext leg v.stands.machine hart)) (leg : PlannedLeg)
-      (at : slice_get legs now.place ≡ Some leg) where
-    pub hart_here : hart < length now.machine.harts
-    hart_here = subst (λ (u : LineView). hart < length u.stands.machine.harts) (sym view) there
-
-    pub next_here : IsNext leg now.machine hart
-    next_here = next_inside guest legs first now snapshots stops is v view leg hart at next
+  -- the leg at its place, as the code finds it
+  module _ (shown : List PlannedLeg) (same : shown ≡ legs) (leg : PlannedLeg) (found : leg ≡ slice_index_or shown now.place leg) where
+    leg_here : slice_get legs now.place ≡ Some leg
+    leg_here = ap (λ (l : List PlannedLeg). slice_get l now.place) (sym same) ∙ at_place shown now.place leg below found
+      where
+        below : now.place < length shown
+        below =
+            let lt : now.place < length legs = subst (λ (u : LineView). u.stands.place < length u.legs) (sym view) place in
+            let many : length shown ≡ length legs = ap length same in
+            omega (arith, lt, many)
 
     pub quiet_here : AreQuiet leg now.machine stops
-    quiet_here = is.quiet.1 leg at
+    quiet_here = is.quiet leg leg_here
 
-    -- the line has room for the step
-    pub room_here : (last : ℕ) → last ≡ steps_of legs → now.moment < last
-    room_here last all = room_inside guest legs first now snapshots stops is leg hart last at next_here all
+    -- it stays quiet there
+    pub quiet_went : (went : Standing) (marks : List ℕ) → went.place ≡ now.place → AreQuiet leg went.machine marks → QuietAt legs went marks
+    quiet_went went marks stays quiet other at =
+        subst (λ (l : PlannedLeg). AreQuiet l went.machine marks) (one_leg legs now.place leg other leg_here (ap (slice_get legs) (sym stays) ∙ at)) quiet
 
-    pub room_in_view : v.stands.moment < steps_of v.legs
-    room_in_view = subst (λ (u : LineView). u.stands.moment < steps_of u.legs) view (room_here (steps_of legs) refl)
+    -- the hart that comes next
+    module _ (hart : ℕ) (next : InLeg v (λ l. IsNext l v.stands.machine hart)) where
+      pub next_here : IsNext leg now.machine hart
+      next_here = subst (λ (u : LineView). InLeg u (λ l. IsNext l u.stands.machine hart)) (sym view) next leg leg_here
 
-    -- the step was taken, in the same leg
-    module _ (went : Standing) (marks : List ℕ) (same : went.place ≡ now.place) (rows : length marks ≡ HART_ROW) (quiet : AreQuiet leg went.machine marks) where
-      pub quiet_went : QuietAt legs went marks
-      quiet_went = (
-        rows,
-        λ other found.
-            subst (λ (l : PlannedLeg). AreQuiet l went.machine marks) (one_leg legs now.place leg other at (ap (slice_get legs) (sym same) ∙ found)) quiet,
-      )
+      -- the line has room for its step
+      pub room_here : now.moment < steps_of legs
+      room_here = let room = step_room guest legs first is.begun now leg hart is.stands leg_here next_here in omega (arith, room)
 
-      pub place_went : went.place ≤ length legs - 1
-      place_went = let within = is.stands.place in omega (arith, within, same)
+      pub room_in_view : v.stands.moment < steps_of v.legs
+      room_in_view = subst (λ (u : LineView). u.stands.moment < steps_of u.legs) view room_here
+
+      -- the step, and turns
+      pub gone_on : (went turned : Standing) (marks : List ℕ) → Steps leg now.machine hart went.machine → went.place ≡ now.place →
+          went.moment ≡ now.moment + 1 → ((s : Standing) → Leads legs s went → Leads legs s turned) → turned.place ≤ length legs - 1 →
+          IsTurned legs turned → QuietAt legs turned marks → IsTimeline guest legs first turned snapshots marks
+      gone_on went turned marks steps stays one on within is_turned quiet =
+          record {
+            begun = is.begun;
+            stands = record { leads = on first leads; place = within };
+            kept = is.kept;
+            turned = is_turned;
+            quiet = quiet;
+          }
+        where
+          is_went : stepped now went.machine ≡ went
+          is_went = λ i. record { place = sym stays i; moment = sym one i; machine = went.machine }
+
+          leads : Leads legs first went
+          leads = subst (λ (s : Standing). Leads legs first s) is_went (StepsOn leg hart went.machine is.stands.leads leg_here next_here steps)

@@ -1,12 +1,11 @@
 -- Of honest frames a line's machine is at each moment the history's.
-use Rattle.std.proofs.Common.{◌≡◌, ℕ, zero, suc, ◌+◌, List, [], ◌∷◌, ◌++◌, length, take, drop, slice_get, Option, Some, Contains, refl, ap, sym, subst, ◌∙◌}
+use Rattle.std.proofs.Common.{◌≡◌, ℕ, zero, suc, ◌+◌, List, [], ◌∷◌, ◌++◌, take, drop, slice_get, Option, Some, Contains, refl, ap, sym, subst, ◌∙◌}
 use Rattle.std.proofs.Math.Path.{fun_ext}
-use Rattle.std.proofs.lemmas.List.{take-append-drop}
 use Rattle.std.proofs.lemmas.List.Elements.{All-contains, Contains-append_right}
 use Rattle.ft_types.specs.Counts.{count_at}
 use Rattle.ft_types.specs.declared.position.Position.{Position}
 use Rattle.interleaving.specs.Machine.{Machine, run, at}
-use Rattle.interleaving.specs.Log.{Begins, counts_after, turns_of}
+use Rattle.interleaving.specs.Log.{counts_after, turns_of}
 use Rattle.interleaving.specs.Stored.{system_of, view}
 use Rattle.interleaving.proofs.Beginnings.{reached}
 use Rattle.interleaving.proofs.Cuts.{here}
@@ -14,7 +13,7 @@ use Rattle.log_join.specs.Stores.{StoreView, IsStore}
 use Rattle.log_join.specs.Families.{Past}
 use Rattle.rv32_hart.specs.Hart.{Hart}
 use Rattle.rv32_hart.specs.Hardware.{hardware}
-use Rattle.guest_image.specs.Image.{ImageContents, guest_of}
+use Rattle.guest_image.specs.Image.{ImageContents}
 use Rattle.guest_image.specs.Machine.{MachineState, boot_machine}
 use Rattle.hart_lease.specs.Runs.{run_of, counts_of}
 use Rattle.hart_lease.proofs.journals.Sizes.{is_run, counts_ran}
@@ -22,23 +21,17 @@ use Rattle.hart_replay.specs.declared.plans.PlannedLeg.{PlannedLeg}
 use Rattle.hart_replay.specs.Facts.{EndsInside, HasEdges, HasInputs}
 use Rattle.hart_replay.specs.Plans.{BeginsAtBase, log_of}
 use Rattle.hart_replay.specs.Histories.{TermHistory, InTerm, IsHonestStore, machine_in}
-use Rattle.hart_replay.specs.Images.{GuestHistory, machine_of, IsHonestStoreOf}
+use Rattle.hart_replay.specs.Images.{GuestHistory, machine_of}
 use Rattle.hart_replay.specs.Laws.{ArePlanned}
 use Rattle.hart_replay.specs.Replays.{leg_turns, IsOutcome}
 use Rattle.hart_replay.proofs.honesty.Images.{honest_in}
 use Rattle.hart_replay.proofs.honesty.Legs.{is_cut, same_start, begins_of_log, leg_turns as turns_of_log}
 use Rattle.hart_replay.proofs.honesty.Plans.{finds_start}
 use Rattle.hart_replay.proofs.honesty.Replays.{boot_pages, legs_keep_pages, lead_from}
-use Rattle.moments.specs.Line.{Standing, standing_at}
-use Rattle.moments.specs.Laws.{StandsOn, MomentsTellHistories}
+use Rattle.least_cuts.proofs.Legs.{about}
+use Rattle.moments.specs.Laws.{MomentsTellHistories}
 use Rattle.moments.proofs.Cutting.{begun_at_boot}
-use Rattle.moments.proofs.Histories.{ComesAlong, HasCome, has_come}
-
--- a list about one of its places
-pub about : {A : Type 0} (xs : List A) (i : ℕ) (x : A) → slice_get xs i ≡ Some x → xs ≡ take i xs ++ x ∷ drop (suc i) xs
-about [] i x e = cc
-about (y ∷ xs) zero x e = let same : y ≡ x = cc in ap (λ z. z ∷ xs) same
-about (y ∷ xs) (suc i) x e = ap (λ l. y ∷ l) (about xs i x e)
+use Rattle.moments.proofs.Histories.{ComesAlong, has_come}
 
 module _ (image : ImageContents) (history : GuestHistory) (store : StoreView) (position : Position) (rules : IsStore store)
     (honest : IsHonestStore (system_of (hardware image.pages)) (view (hardware image.pages) (boot_machine image)) history store)

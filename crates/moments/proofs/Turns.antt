@@ -1,9 +1,8 @@
 -- Steps and turns of the line, from what the code has.
-use Rattle.std.proofs.Common.{◌≡◌, ◌≢◌, ◌⊎◌, inl, inr, ℕ, zero, suc, ◌+◌, ◌-◌, ◌<◌, ◌≤◌, List, [], ◌∷◌, length, replicate, slice_get, slice_index, slice_set, Option, Some, None, Contains, refl, ap, sym, subst, ◌∙◌, arith, false}
-use Rattle.std.proofs.lemmas.Bool.{cases_lt}
+use Rattle.std.proofs.Common.{◌≡◌, ◌≢◌, inl, inr, ℕ, zero, suc, ◌+◌, ◌-◌, ◌<◌, ◌≤◌, List, [], ◌∷◌, length, replicate, slice_get, slice_index, slice_set, Option, Some, refl, ap, sym, subst, ◌∙◌, arith, false}
 use Rattle.ft_types.specs.Counts.{count_at}
 use Rattle.ft_types.specs.declared.names.TheConstants.{HART_ROW}
-use Rattle.interleaving.specs.Log.{Edge, bump}
+use Rattle.interleaving.specs.Log.{bump}
 use Rattle.interleaving.specs.Stored.{run_from, goes, halted_of, stored_after}
 use Rattle.interleaving.proofs.Put.{same_or_not, bump_same, bump_other}
 use Rattle.input_log.specs.declared.Input.{Input}
@@ -11,17 +10,17 @@ use Rattle.rv32_hart.specs.Hart.{Hart}
 use Rattle.rv32_hart.specs.Hardware.{hardware}
 use Rattle.rv32_hart.specs.Step.{effect}
 use Rattle.guest_image.specs.Machine.{MachineState}
-use Rattle.hart_lease.specs.Runs.{run_of, counts_of, steps_taken}
+use Rattle.hart_lease.specs.Runs.{counts_of, steps_taken}
 use Rattle.hart_lease.proofs.journals.Sizes.{as_large}
 use Rattle.log_audit.proofs.StepAnswers.{there_below}
 use Rattle.hart_replay.specs.declared.plans.PlannedLeg.{PlannedLeg}
 use Rattle.hart_replay.specs.Plans.{log_of}
 use Rattle.log_audit.specs.machinery.Covered.{IsQuietTo}
 use Rattle.hart_replay.specs.Leading.{AreAtEnds}
-use Rattle.moments.specs.Line.{MayGo, IsNext, Steps, turn_in, Standing, Leads}
+use Rattle.least_cuts.proofs.Legs.{one_leg}
+use Rattle.moments.specs.Line.{IsNext, Steps, turn_in, Standing, Leads}
 use Rattle.moments.specs.Line.{TurnsOn}
 use Rattle.moments.specs.machinery.Kept.{AreQuiet, QuietAt, IsTurned}
-use Rattle.moments.proofs.Moves.{one_leg}
 use Rattle.moments.proofs.Standings.{counts_step}
 
 -- no hart is known to be quiet
@@ -40,7 +39,7 @@ quiet_at_none leg m = λ hart lt.
     }
 
 pub quiet_none : (legs : List PlannedLeg) (t : Standing) (stops : List ℕ) → stops ≡ replicate HART_ROW 0 → QuietAt legs t stops
-quiet_none legs t stops is = subst (λ (s : List ℕ). QuietAt legs t s) (sym is) (refl, λ leg at. quiet_at_none leg t.machine)
+quiet_none legs t stops is = subst (λ (s : List ℕ). QuietAt legs t s) (sym is) (λ leg at. quiet_at_none leg t.machine)
 
 -- the line is led on past a leg that was led to its end
 pub turn_more : (legs : List PlannedLeg) (first t u : Standing) (leg : PlannedLeg) → slice_get legs t.place ≡ Some leg → AreAtEnds t.machine leg.ends →
@@ -55,9 +54,6 @@ pub not_led : (legs : List PlannedLeg) (t : Standing) (leg : PlannedLeg) → sli
     IsTurned legs t
 not_led legs t leg at none other found ends =
     absurd (none (subst (λ (l : PlannedLeg). AreAtEnds t.machine l.ends) (sym (one_leg legs t.place leg other at found)) ends))
-
-pub last_turned : (legs : List PlannedLeg) (t : Standing) → length legs - 1 ≤ t.place → IsTurned legs t
-last_turned legs t le leg at ends = omega (arith, le)
 
 -- a hart that comes next runs, and is below its end
 pub next_runs : (leg : PlannedLeg) (m : MachineState) (hart limit : ℕ) → IsNext leg m hart → count_at leg.ends hart < limit → (h : Hart) →

@@ -11,7 +11,7 @@ use Rattle.rv32_hart.specs.Access.{in_ram, page_at, offset_at, load_width, store
 use Rattle.moments.specs.declared.access.Access.{Access}
 use Rattle.moments.specs.declared.access.Access.TheVariants.{Nothing, Reads, Writes, Changes}
 use Rattle.moments.specs.Points.{used_at, used_by, used_by_word, used_in, used_next, unless_interrupted}
-use Rattle.moments.proofs.Moves.{some_is}
+use Rattle.least_cuts.proofs.Legs.{some_is}
 use Rattle.moments.proofs.Interrupts.{received_pc, received_registers}
 
 if_yes : {A : Type 0} (b : Bool) (x y z : A) → b ≡ true → z ≡ x → z ≡ (if b then x else y)

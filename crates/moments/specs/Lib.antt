@@ -2,5 +2,4 @@ pub mod Line
 pub mod Points
 pub mod Stops
 pub mod Laws
-pub mod Cuts
 pub mod machinery

@@ -8,7 +8,6 @@ use Rattle.input_log.specs.declared.Input.{Input}
 use Rattle.guest_image.specs.Machine.{MachineState}
 use Rattle.hart_lease.specs.Runs.{run_of, counts_of}
 use Rattle.hart_replay.specs.declared.plans.PlannedLeg.{PlannedLeg}
-use Rattle.hart_replay.specs.declared.fault.ReplayFault.{ReplayFault}
 use Rattle.hart_replay.specs.Plans.{log_of}
 use Rattle.hart_replay.specs.Replays.{is_halted}
 use Rattle.hart_replay.specs.Leading.{AreAtEnds}

@@ -49,7 +49,8 @@ abbrev pub used_by_word : Option Instr → ℕ → Hart → Access
 used_by_word None pages h = Nothing
 used_by_word (Some i) pages h = used_by i pages h
 
--- the word at pc, which is a multiple of four, is fetched, where it lies in RAM
+-- The word at pc is fetched, where it lies in RAM. No line comes to a pc that is not a multiple of four (a jump to such an address is exception 0 at
+-- the jump, and mtvec and mepc end in two zero bits), nor to an x0 that is not 0: the laws of reads and writes in Laws stand on it.
 abbrev pub used_in : List (List ℕ) → Hart → Access
 used_in contents h =
     if (h.pc % 4 == 0) && in_ram (length contents) h.pc
@@ -59,6 +60,18 @@ used_in contents h =
 abbrev pub unless_interrupted : Option ℕ → List (List ℕ) → Hart → Access
 unless_interrupted (Some cause) contents h = Nothing
 unless_interrupted None contents h = used_in contents h
+
+-- the byte at this address is read
+abbrev pub ReadsByte : Access → ℕ → Type 0
+ReadsByte (Reads bytes) address = HasByte bytes address
+ReadsByte (Changes bytes) address = HasByte bytes address
+ReadsByte _ address = ⊥
+
+-- the byte at this address is written
+abbrev pub WritesByte : Access → ℕ → Type 0
+WritesByte (Writes bytes) address = HasByte bytes address
+WritesByte (Changes bytes) address = HasByte bytes address
+WritesByte _ address = ⊥
 
 -- what a hart uses that has received its inputs
 abbrev pub used_next : List (List ℕ) → Hart → Access

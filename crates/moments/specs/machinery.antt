@@ -3,4 +3,3 @@ pub mod Machines
 pub mod Kept
 pub mod Choices
 pub mod Pending
-pub mod Raising

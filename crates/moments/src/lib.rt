@@ -2,8 +2,6 @@
 #![tactic(auto)]
 
 mod access;
-mod closure;
-mod cuts;
 mod laws;
 mod machines;
 mod next;
@@ -15,7 +13,6 @@ mod travel;
 mod turning;
 
 pub use access::{Access, Bytes};
-pub use cuts::machine_at;
-pub use laws::honest_moments;
+pub use laws::{honest_moments, seen_accesses};
 pub use points::{Point, Stop, Watched};
 pub use timeline::Timeline;

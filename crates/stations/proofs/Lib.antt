@@ -4,3 +4,4 @@ pub mod Held
 pub mod HandedLines
 pub mod Spellings
 pub mod Handshakes
+pub mod Tops

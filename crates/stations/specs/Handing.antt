@@ -1,5 +1,5 @@
 -- What is fenced off and handed over of a log.
-use Rattle.std.specs.Prelude.{◌≡◌, ◌⊎◌, ◌≤◌, ◌<◌, ◌++◌, ℕ, List, [], ◌∷◌, length, Option, None, Some}
+use Rattle.std.specs.Prelude.{◌≡◌, ◌⊎◌, ◌≤◌, ◌<◌, ◌+◌, ◌++◌, ℕ, List, [], ◌∷◌, length, Option, None, Some}
 use Rattle.std.specs.List.{AllByRecursion}
 use Rattle.ft_types.specs.Guests.{GuestParts}
 use Rattle.ft_types.specs.Text.{line}
@@ -11,9 +11,10 @@ use Rattle.wire.specs.declared.handed.Handed.{Handed}
 use Rattle.stations.specs.Acts.{Act, SawLog, SawFence, Fenced, Failed, Does}
 use Rattle.stations.specs.Logs.{IsFrontOf, IsOf, HasNoLog}
 use Rattle.stations.specs.declared.faults.FenceFault.{FenceFault}
-use Rattle.stations.specs.declared.faults.FenceFault.TheVariants.{Files as FilesOfFence, Fenced as WasFenced}
+use Rattle.stations.specs.declared.faults.FenceFault.TheVariants.{Files as FilesOfFence, Fenced as WasFenced, Far}
 use Rattle.stations.specs.declared.faults.LogFault.{LogFault}
 use Rattle.stations.specs.declared.faults.LogFault.TheVariants.{Files, Frame as FrameAt, OtherGuest, Clash}
+use Rattle.stations.specs.declared.reach.TheConstants.{TERM_REACH}
 
 -- the log was read; these are all its frames, which are of the guest, and less than a whole one stood behind them
 pub record IsHanded (guest : GuestParts) (old new : List Act → Type 0) (handed : List ℕ) : Type 0 where
@@ -38,12 +39,13 @@ pub record IsHandedTo (guest : GuestParts) (keeper term : ℕ) (frames bytes : L
   pub read : keeper < KEEPER_LIMIT → (handed : Handed) (rest : List ℕ) → HasLine guest bytes handed rest →
       (handed ≡ record { term = term; keeper = keeper; length = length frames }) × (rest ≡ frames)
 
--- why a log is not fenced off: a term that is not above the last fence gets none; or the fences failed as they were read, or as this one was added,
--- which may be there then
+-- why a log is not fenced off: a term that is not above the last fence, or out of its reach, gets none; or the fences failed as they were read, or as this
+-- one was added, which may be there then
 abbrev pub IsNotFenced : ℕ → (List Act → Type 0) → (List Act → Type 0) → FenceFault → Type 0
 IsNotFenced term old new (WasFenced last) = (term ≤ last) × Does old new (SawFence last ∷ [])
+IsNotFenced term old new (Far last) = (last + TERM_REACH < term) × Does old new (SawFence last ∷ [])
 IsNotFenced term old new (FilesOfFence fault) =
-    Does old new (Failed fault ∷ []) ⊎ ((last : ℕ) × (last < term) ×
+    Does old new (Failed fault ∷ []) ⊎ ((last : ℕ) × (last < term) × (term ≤ last + TERM_REACH) ×
     (Does old new (SawFence last ∷ Failed fault ∷ []) ⊎ Does old new (SawFence last ∷ Fenced term ∷ Failed fault ∷ [])))
 
 -- why nothing is handed over: the log failed or memory was refused, the first fault of the log, or a frame of another guest

@@ -1,8 +1,9 @@
 -- What a keeper over a log has, and what it acknowledges.
-use Rattle.std.specs.Prelude.{◌≡◌, ◌⊎◌, ◌<◌, ◌≤◌, max, ℕ, List, [], ◌∷◌, ◌++◌, take, Option, None, Some, option_map}
+use Rattle.std.specs.Prelude.{◌≡◌, ◌⊎◌, ◌<◌, ◌≤◌, ◌+◌, max, ℕ, List, [], ◌∷◌, ◌++◌, take, Option, None, Some, option_map}
 use Rattle.ft_types.specs.Guests.{GuestParts}
 use Rattle.ft_types.specs.declared.position.Position.{Position}
 use Rattle.fragment_codec.specs.declared.frame.Frame.{Frame}
+use Rattle.fragment_codec.specs.declared.frame.Frame.TheVariants.{Log as Piece, Opening}
 use Rattle.fragment_codec.specs.Streams.{Splits}
 use Rattle.log_join.specs.Answers.{answer_to}
 use Rattle.log_join.specs.Coming.{IsJoinOf}
@@ -17,6 +18,7 @@ use Rattle.stations.specs.declared.faults.FilesFault.{FilesFault}
 use Rattle.stations.specs.declared.faults.FilesFault.TheVariants.{Memory as NoMemory}
 use Rattle.stations.specs.declared.faults.LogFault.{LogFault}
 use Rattle.stations.specs.declared.faults.LogFault.TheVariants.{Files, Frame as FrameAt, OtherGuest, Clash}
+use Rattle.stations.specs.declared.reach.TheConstants.{TERM_REACH}
 
 pub record StationView : Type 0 where
   pub keeper : ℕ  -- its number
@@ -29,6 +31,11 @@ pub record IsOnLog (log : List ℕ) (station : StationView) : Type 0 where
   pub frames : List Frame
   pub splits : Splits (log ++ station.fresh) frames []
   pub join : IsJoinOf station.store.guest frames station.store
+
+-- the frame opens a term that is out of reach of the last one that the keeper knows: the greatest fence that it saw, or the last term of its store's chain
+abbrev pub IsFar : StationView → Frame → Type 0
+IsFar station (Opening opening) = (p : Position) × IsPosition station.store p × (max station.seen p.top + TERM_REACH < opening.term)
+IsFar station (Piece fragment) = ⊥
 
 -- what is fresh is added to the log, then the log is brought to disk, and then the fence is read
 abbrev pub logging : List ℕ → ℕ → List Act

@@ -65,6 +65,8 @@ pub enum FenceFault {
     Files(FilesFault),
     /// It was fenced off for this term, which is not below the one that asks.
     Fenced(Term),
+    /// It was fenced off for this term last, of which the one that asks is out of reach.
+    Far(Term),
 }
 
 impl From<FilesFault> for FenceFault {

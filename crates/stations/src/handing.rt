@@ -1,15 +1,17 @@
 //! A log is fenced off for a term, and then handed to it.
 
-ghost use Rattle.std.specs.Prelude.{◌≡◌, ◌<◌, ℕ, List, [], ◌∷◌, IfOk, IfErr, OnOk, IsTrue, ◌↔◌};
+ghost use Rattle.std.specs.Prelude.{◌≡◌, ◌<◌, ◌≤◌, ◌+◌, ℕ, List, [], ◌∷◌, IfOk, IfErr, OnOk, IsTrue, ◌↔◌};
 ghost use Rattle.std.specs.List.{AllByRecursion};
 ghost use Rattle.stations.specs.Acts.{SawFence, Fenced, Does};
 ghost use Rattle.stations.specs.Handing.{IsHanded, IsHandedTo, IsNotFenced, IsNotHanded};
 ghost use Rattle.stations.specs.Logs.{IsOf};
+ghost use Rattle.stations.specs.declared.reach.TheConstants.{TERM_REACH};
 
 use crate::admitting::is_of;
 use crate::faults::{FenceFault, LogFault};
 use crate::files::KeeperFiles;
 use crate::log_front::{LogFront, read_frames};
+use crate::reach::is_out_of_reach;
 use fragment_codec::Frame;
 use ft_types::{Guest, Keeper, Memory, Term};
 use std::alloc::Global;
@@ -41,28 +43,31 @@ pub struct HandedOver<F: KeeperFiles + Drop> {
     pub files: F,
 }
 
-/// Puts a fence for a term that is above the last fence.
+/// Puts a fence for a term that is above the last fence, and in its reach.
 fn put_fence<F: KeeperFiles>(alloc: Global, files: &mut F, term: Term) -> Result<(), FenceFault>
-    ensures fenced { OnOk result ((last : ℕ) × (last < term) × Does (F.acts files.old) (F.acts files.new) (SawFence last ∷ Fenced term ∷ [])) }
+    ensures fenced { OnOk result ((last : ℕ) × (last < term) × (term ≤ last + TERM_REACH) × Does (F.acts files.old) (F.acts files.new) (SawFence last ∷ Fenced term ∷ [])) }
     ensures refused { IfErr result (λ f. IsNotFenced term (F.acts files.old) (F.acts files.new) f) }
 {
     let last = files.last_fence(alloc)?;
     if last >= term {
         return Err(FenceFault::Fenced(last));
     }
+    if is_out_of_reach(last, term) {
+        return Err(FenceFault::Far(last));
+    }
     files.add_fence(term)?;
     Ok(())
 }
 
-/// Fences a log off for a term that is above the last fence. The fence is on disk behind this.
+/// Fences a log off for a term that is above the last fence, and in its reach. The fence is on disk behind this.
 pub fn fence_off<F: KeeperFiles + Drop>(
     alloc: Global,
     mut files: F,
     term: Term,
 ) -> Result<FencedLog<F>, Refused<F, FenceFault>>
     ensures term { IfOk result (λ fenced. fenced.term ≡ term) }
-    ensures fenced { IfOk result (λ fenced. (last : ℕ) × (last < term) × Does (F.acts files) (F.acts fenced.files) (SawFence last ∷ Fenced term ∷ [])) }
-    // A term that is not above the last fence gets none; any other is refused only where the files failed.
+    ensures fenced { IfOk result (λ fenced. (last : ℕ) × (last < term) × (term ≤ last + TERM_REACH) × Does (F.acts files) (F.acts fenced.files) (SawFence last ∷ Fenced term ∷ [])) }
+    // A term that is not above the last fence, or out of its reach, gets none; any other is refused only where the files failed.
     ensures refused { IfErr result (λ r. IsNotFenced term (F.acts files) (F.acts r.files) r.fault) }
 {
     match put_fence(alloc, &mut files, term) {

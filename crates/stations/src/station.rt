@@ -1,17 +1,18 @@
 //! A keeper over its log.
 
-ghost use Rattle.std.specs.Prelude.{◌≡◌, ◌≢◌, ◌≤◌, ◌+◌, ◌++◌, ◌∷◌, ℕ, List, [], length, vec_len, vec_capacity, max, Ok, None, IfOk, IfErr, OnOk, OnErr, IfSome, option_map};
+ghost use Rattle.std.specs.Prelude.{◌≡◌, ◌≢◌, ◌≤◌, ◌+◌, ◌++◌, ◌∷◌, ℕ, List, [], length, vec_len, vec_capacity, max, Ok, None, IfOk, IfErr, OnOk, OnErr, IfSome, IsTrue, ◌↔◌, option_map};
 ghost use Rattle.fragment_codec.specs.declared.frame.Frame.{Frame as LogFrame};
 ghost use Rattle.fragment_codec.specs.Streams.{spelling, Splits};
 ghost use Rattle.log_join.specs.Answers.{answer_to};
 ghost use Rattle.log_join.specs.Coming.{Come, IsJoinOf};
 ghost use Rattle.log_join.specs.Stores.{StoreView, IsJoin, alone};
 ghost use Rattle.stations.specs.Acts.{Does};
-ghost use Rattle.stations.specs.Stations.{Answers, AnswersAs, IsBegun, IsOnLog, IsBeginFault, IsNoKeepers, IsNotLogged, IsPutFault, logging, said_of};
+ghost use Rattle.stations.specs.Stations.{Answers, AnswersAs, IsBegun, IsOnLog, IsBeginFault, IsFar, IsNoKeepers, IsNotLogged, IsPutFault, logging, said_of};
 
 use crate::faults::{FilesFault, LogFault};
 use crate::files::KeeperFiles;
 use crate::log_front::{LogFront, read_frames};
+use crate::reach::is_out_of_reach;
 use crate::written::WrittenFrame;
 use fragment_codec::{FIRST_TERM, Frame};
 use ft_types::{Guest, Keeper, Memory, Position, Term, boxed};
@@ -138,6 +139,20 @@ impl KeeperStation {
         ensures { result.now ≡ self.now.store }
     {
         self.held.store()
+    }
+
+    /// Whether the frame opens a term that is out of reach of the last one that the keeper knows: the greatest fence that it saw, or the last term of its
+    /// store's chain.
+    pub fn is_far(&self, frame: &WrittenFrame) -> bool
+        ensures { IsTrue result ↔ IsFar self.now frame.now }
+    {
+        match frame.frame() {
+            Frame::Opening(opening) => {
+                let last = self.seen.max(self.held.position().top);
+                is_out_of_reach(last, opening.term())
+            }
+            Frame::Log(_) => false,
+        }
     }
 
     /// Takes a frame that is new, and its bytes.

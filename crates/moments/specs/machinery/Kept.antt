@@ -1,8 +1,7 @@
 -- What a timeline keeps: private words.
-use Rattle.std.specs.Prelude.{ℕ, ◌≡◌, ◌+◌, ◌-◌, ◌<◌, ◌≤◌, List, All, length, slice_get, slice_index, Some, None, Option}
+use Rattle.std.specs.Prelude.{ℕ, ◌≡◌, ◌+◌, ◌-◌, ◌<◌, ◌≤◌, List, length, slice_get, slice_index, Some}
 use Rattle.std.specs.List.{AllByRecursion}
 use Rattle.ft_types.specs.Guests.{GuestParts}
-use Rattle.ft_types.specs.declared.names.TheConstants.{HART_ROW}
 use Rattle.guest_image.specs.Machine.{MachineState}
 use Rattle.hart_lease.specs.Runs.{counts_of}
 use Rattle.hart_replay.specs.declared.plans.PlannedLeg.{PlannedLeg}
@@ -17,7 +16,7 @@ AreQuiet leg m stops = (hart : ℕ) → hart < length m.harts → IsQuietTo leg 
 
 -- so it is in the leg in which the line stands
 abbrev pub QuietAt : List PlannedLeg → Standing → List ℕ → Type 0
-QuietAt legs t stops = (length stops ≡ HART_ROW) × ((leg : PlannedLeg) → slice_get legs t.place ≡ Some leg → AreQuiet leg t.machine stops)
+QuietAt legs t stops = (leg : PlannedLeg) → slice_get legs t.place ≡ Some leg → AreQuiet leg t.machine stops
 
 -- the leg is not one that was led to its end with another behind it
 abbrev pub IsTurned : List PlannedLeg → Standing → Type 0

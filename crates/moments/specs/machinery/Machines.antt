@@ -1,5 +1,4 @@
 -- What machines, and snapshots of them, are in the line's words: private words.
-use Rattle.std.specs.Prelude.{ℕ, List, map}
 use Rattle.guest_image.specs.Machine.{MachineState}
 use Rattle.moments.specs.declared.machines.SteppedMachine.{SteppedMachine}
 use Rattle.moments.specs.declared.snapshots.Snapshot.{Snapshot}

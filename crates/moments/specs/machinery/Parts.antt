@@ -1,5 +1,5 @@
 -- Pages that are a machine's own or that others have too: private words.
-use Rattle.std.specs.Prelude.{ℕ, ◌≡◌, List, map, Bool, true, false}
+use Rattle.std.specs.Prelude.{ℕ, List, map, Bool, true, false}
 use Rattle.std.specs.Arc.{arc_value}
 use Rattle.rv32_hart.specs.Ram.{Ram}
 use Rattle.moments.specs.declared.ram.Part.{Part}

@@ -1,4 +1,4 @@
-use Rattle.debugging.proofs.Telling.{counts_begin, counts_on}
+use Rattle.debugging.proofs.Reporting.{counts_begin, counts_on}
 use Rattle.debugging.proofs.monitor.put_counts.Goals as goal
 
 pub loop-number-init : goal.loop-number-init

@@ -1,5 +1,5 @@
 use Rattle.std.proofs.Common.{◌≡◌, Some, None, arith}
-use Rattle.debugging.proofs.Telling.{hart_of_place, number_of_place}
+use Rattle.debugging.proofs.Reporting.{hart_of_place, number_of_place}
 use Rattle.debugging.proofs.monitor.read_place.Goals as goal
 
 pub returns-in_err-hart : goal.returns-in_err-hart

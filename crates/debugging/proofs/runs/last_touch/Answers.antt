@@ -1,6 +1,6 @@
 use Rattle.std.proofs.Common.{[], ◌∷◌}
 use Rattle.debugging.proofs.Lines.{led_on}
-use Rattle.debugging.proofs.Telling.{at_begin}
+use Rattle.debugging.proofs.Reporting.{at_begin}
 use Rattle.debugging.proofs.runs.last_touch.Goals as goal
 
 pub returns-in-Begin : goal.returns-in-Begin

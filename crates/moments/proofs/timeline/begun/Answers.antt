@@ -1,5 +1,4 @@
-use Rattle.std.proofs.Common.{◌≡◌, ◌≤◌, ◌-◌, ◌∙◌, List, length, ap, sym, subst}
-use Rattle.hart_replay.specs.declared.plans.PlannedLeg.{PlannedLeg}
+use Rattle.std.proofs.Common.{◌≤◌, ◌-◌, ◌∙◌, length, ap, sym, subst}
 use Rattle.moments.specs.Line.{Standing, steps_of}
 use Rattle.moments.specs.machinery.Machines.{standing_of}
 use Rattle.moments.proofs.Turns.{quiet_none}
@@ -16,9 +15,10 @@ turn-requires-clause-place c =
 
 pub invariant_of-result : goal.invariant_of-result
 invariant_of-result c = (
-  timeline_begun c.args.plan.guest c.args.plan.legs (standing_of c.args.first) (standing_of c.shared.new.snapshot) (standing_of c.in_ok-now.now)
+  rw c.new-3.ensures.items
+      (timeline_begun c.args.plan.guest c.args.plan.legs (standing_of c.args.first) (standing_of c.shared.new.snapshot) (standing_of c.in_ok-now.now)
       (standing_of c.turn.new.now) c.turn.new.stops c.requires c.shared.ensures.kept c.in_ok-now.ensures.same
       (rw c.legs-2.ensures.legs at c.turn.ensures.leads) (rw c.legs-2.ensures.legs at c.turn.ensures.place)
-      (rw c.legs-2.ensures.legs at c.turn.ensures.turned) (rw c.legs-2.ensures.legs at c.turn.ensures.quiet),
+      (rw c.legs-2.ensures.legs at c.turn.ensures.turned) (rw c.legs-2.ensures.legs at c.turn.ensures.quiet)),
   c.steps_of-last.ensures ∙ ap steps_of c.legs.ensures.legs,
 )

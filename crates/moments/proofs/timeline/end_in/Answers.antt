@@ -1,4 +1,4 @@
-use Rattle.std.proofs.Common.{◌∙◌, List, ap}
+use Rattle.std.proofs.Common.{◌∙◌, ap}
 use Rattle.ft_types.specs.Counts.{count_at}
 use Rattle.moments.proofs.Lines.{ends_last}
 use Rattle.moments.proofs.timeline.end_in.Goals as goal

@@ -1,4 +1,4 @@
-use Rattle.std.proofs.Common.{◌≡◌, true, false, arith, sym, ◌∙◌, true≢false}
+use Rattle.std.proofs.Common.{true, false, arith, sym, ◌∙◌, true≢false}
 use Rattle.hart_replay.proofs.Fronts.{at_place}
 use Rattle.moments.specs.machinery.Machines.{standing_of}
 use Rattle.moments.proofs.Turns.{not_led}

@@ -1,6 +1,5 @@
-use Rattle.std.proofs.Common.{arith, ◌∙◌, sym, subst}
+use Rattle.std.proofs.Common.{arith}
 use Rattle.ft_types.specs.declared.names.TheConstants.{COUNT_LIMIT}
-use Rattle.moments.specs.Line.{Steps}
 use Rattle.moments.specs.machinery.Machines.{machine_of}
 use Rattle.moments.proofs.Turns.{next_runs, steps_taken_so}
 use Rattle.moments.proofs.turning.step_on.Goals as goal

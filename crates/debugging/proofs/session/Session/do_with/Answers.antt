@@ -1,4 +1,4 @@
-use Rattle.debugging.proofs.Telling.{goes_named, who_named}
+use Rattle.debugging.proofs.Reporting.{goes_named, who_named}
 use Rattle.debugging.proofs.session.Session.do_with.Goals as goal
 
 pub returns-then-is-clause-told : goal.returns-then-is-clause-told

@@ -1,4 +1,4 @@
-use Rattle.debugging.proofs.Telling.{went_there}
+use Rattle.debugging.proofs.Reporting.{went_there}
 use Rattle.debugging.proofs.session.Session.go_to_place.Goals as goal
 
 pub returns-in-Some-clause-went : goal.returns-in-Some-clause-went

@@ -1,6 +1,6 @@
 use Rattle.std.proofs.Common.{inl, refl, Some}
 use Rattle.debugging.specs.Sessions.{SessionView}
-use Rattle.debugging.proofs.Telling.{stayed}
+use Rattle.debugging.proofs.Reporting.{stayed}
 use Rattle.debugging.proofs.session.Session.go_to_step.Goals as goal
 
 pub returns-then-not-branch-clause-went : goal.returns-then-not-branch-clause-went

@@ -1,6 +1,6 @@
 use Rattle.debugging.specs.Notes.{harts_of}
 use Rattle.debugging.specs.Monitor.{Told, IsPutBehind, Tells}
-use Rattle.debugging.proofs.Telling.{where_told, none_told, named_told}
+use Rattle.debugging.proofs.Reporting.{where_told, none_told, named_told}
 use Rattle.debugging.proofs.session.Session.tell_of.Goals as goal
 
 pub returns-then-is-clause-told : goal.returns-then-is-clause-told

@@ -1,4 +1,4 @@
-use Rattle.debugging.proofs.Telling.{told_who}
+use Rattle.debugging.proofs.Reporting.{told_who}
 use Rattle.debugging.proofs.session.Session.tell_who.Goals as goal
 
 pub returns-in-Some-clause-told : goal.returns-in-Some-clause-told

@@ -1,5 +1,4 @@
-use Rattle.std.proofs.Common.{sym, ap, ◌∙◌, true≢false, length, length-set}
-use Rattle.moments.specs.machinery.Parts.{contents_of}
+use Rattle.std.proofs.Common.{sym, ap, ◌∙◌, true≢false}
 use Rattle.moments.proofs.Stepping.{lacked_in, fewer_lacking, step_runs, taken, put_back}
 use Rattle.moments.proofs.machines.SteppedMachine.step.Goals as goal
 

@@ -1,5 +1,4 @@
 use Rattle.std.proofs.Common.{◌<◌, ap, sym, subst, length, refl}
-use Rattle.guest_image.specs.Machine.{MachineState}
 use Rattle.moments.specs.Line.{LineView}
 use Rattle.moments.specs.declared.access.Access.TheVariants.{Nothing}
 use Rattle.moments.specs.machinery.Machines.{machine_of}

@@ -1,4 +1,5 @@
-use Rattle.std.proofs.Common.{arith, sym}
+use Rattle.std.proofs.Common.{ℕ, Option, subst, arith}
+use Rattle.moments.specs.Stops.{LastHit}
 use Rattle.moments.proofs.Stopping.{back_begins, back_on, stops_back, stops_at_begin, line_on, same_steps}
 use Rattle.moments.proofs.timeline.Timeline.back_until.Goals as goal
 
@@ -17,7 +18,8 @@ last_hit-requires-clause-within c =
 pub loop-end-preserved : goal.loop-end-preserved
 loop-end-preserved c =
     rw c.now-begin.ensures.value (back_on c.args.points.now c.args.self.now c.loop-end.self c.near.new.self c.loop-end.end c.loop-end.invariant
-    c.near.ensures.line c.last_hit.new.self c.last_hit.ensures.line (let before = c.in_ok-near.ensures.before in omega (arith, before)) c.in-None.ensures.last)
+    c.near.ensures.line c.last_hit.new.self c.last_hit.ensures.line (let before = c.in_ok-near.ensures.before in omega (arith, before))
+    (subst (λ (o : Option (ℕ × ℕ)). LastHit c.args.points.now c.near.new.self c.loop-end.end o) c.in_default.is c.in_ok-moment.ensures.last))
 
 pub returns-clause-stopped : goal.returns-clause-stopped
 returns-clause-stopped c =
@@ -27,4 +29,6 @@ returns-clause-stopped c =
 pub returns-in-Some-clause-stopped : goal.returns-in-Some-clause-stopped
 returns-in-Some-clause-stopped c =
     stops_back c.args.points.now c.args.self.now c.loop-end.self c.near.new.self c.loop-end.end c.loop-end.invariant c.near.ensures.line c.go_to.new.self
-    c.in-Some.moment c.in-Some.number c.in-Some.ensures.last c.in_ok-go_to.ensures.there
+    c.in-Some.moment c.in-Some.number
+    (subst (λ (o : Option (ℕ × ℕ)). LastHit c.args.points.now c.near.new.self c.loop-end.end o) c.in-Some.is c.in_ok-moment.ensures.last)
+    c.in_ok-go_to.ensures.there

@@ -1,5 +1,5 @@
 use Rattle.std.proofs.Common.{arith}
-use Rattle.moments.proofs.Stopping.{line_on, line_kept, line_forward, moment_forward, same_steps}
+use Rattle.moments.proofs.Stopping.{line_kept, line_forward, moment_forward, same_steps}
 use Rattle.moments.proofs.timeline.Timeline.go_to.Goals as goal
 
 pub loop-self-preserved : goal.loop-self-preserved

@@ -1,9 +1,16 @@
-use Rattle.std.proofs.Common.{◌≡◌, ◌<◌, ◌≤◌, ◌∙◌, sym, arith, refl}
-use Rattle.hart_lease.specs.Runs.{counts_of}
-use Rattle.moments.proofs.Stopping.{line_on, line_kept}
+use Rattle.std.proofs.Common.{arith, refl}
+use Rattle.moments.proofs.Stopping.{line_kept}
 use Rattle.moments.proofs.Rises.{fewer_first, count_there}
 use Rattle.moments.proofs.Coming.{comes_next}
 use Rattle.moments.proofs.timeline.Timeline.go_to_count.Goals as goal
+
+pub returns-then-end_of-count-clause-none : goal.returns-then-end_of-count-clause-none
+returns-then-end_of-count-clause-none c stays = (
+  refl,
+  λ moment m at.
+      let most = c.end_of.ensures.most moment m at in
+      omega (arith, most),
+)
 
 pub loop-hart-init : goal.loop-hart-init
 loop-hart-init c =

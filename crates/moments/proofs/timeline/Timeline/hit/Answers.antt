@@ -1,5 +1,5 @@
 use Rattle.std.proofs.Common.{◌+◌}
-use Rattle.moments.specs.Points.{BreaksAt, WatchesAt, HitsAt, IsOne, NoneFrom}
+use Rattle.moments.specs.Points.{WatchesAt, HitsAt, IsOne, NoneFrom}
 use Rattle.moments.proofs.Lines.{if_some, if_none}
 use Rattle.moments.proofs.Stopping.{broken_hits, watched_hits, none_hits}
 use Rattle.moments.proofs.timeline.Timeline.hit.Goals as goal

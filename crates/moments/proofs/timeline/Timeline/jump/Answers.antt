@@ -1,6 +1,4 @@
-use Rattle.std.proofs.Common.{◌≡◌, ◌≤◌, ◌-◌, ◌∙◌, List, length, ap, sym, subst}
-use Rattle.hart_replay.specs.declared.plans.PlannedLeg.{PlannedLeg}
-use Rattle.moments.specs.Line.{LineView}
+use Rattle.std.proofs.Common.{◌-◌}
 use Rattle.moments.specs.machinery.Machines.{standing_of}
 use Rattle.moments.proofs.Turns.{quiet_none}
 use Rattle.moments.proofs.Lines.{jumped, moved_line, of_line}

@@ -1,5 +1,4 @@
-use Rattle.std.proofs.Common.{◌≤◌, arith}
-use Rattle.moments.specs.machinery.Machines.{standing_of}
+use Rattle.std.proofs.Common.{arith}
 use Rattle.moments.proofs.Jumping.{first_moment, copy_on}
 use Rattle.moments.proofs.timeline.Timeline.near.Goals as goal
 

@@ -1,5 +1,4 @@
-use Rattle.std.proofs.Common.{◌≤◌, arith}
-use Rattle.moments.proofs.Jumping.{copy_on, copy_below, copy_most}
+use Rattle.moments.proofs.Jumping.{copy_on}
 use Rattle.moments.proofs.timeline.Timeline.near_count.Goals as goal
 
 pub jump-requires : goal.jump-requires
