@@ -29,7 +29,7 @@ abbrev pub empty_election : {Book : Type 0} → GuestParts → Election Book
 empty_election guest =
     record { world = empty_world guest; to = λ term keeper. None; stood = λ candidate. 0; standing = λ candidate. 0; begun = [] }
 
--- term 1 runs from boot, by candidate 0, so all others are later ones, and nobody stands
+-- term 1 runs from boot, which candidate 0 began, and nobody stands; whoever does stands in a later one
 abbrev pub first_election : {Book : Type 0} → GuestParts → Book → Election Book
 first_election guest b =
     record {
@@ -69,8 +69,8 @@ module _ {Book Fact : Type 0} (recorder : Recorder Book Fact) (guest : GuestPart
     Stand : (candidate u : ℕ) → may candidate u ≡ true → e.stood candidate < u → Happens e (stands e candidate u)
     -- a candidate gives up, or comes back from a crash with what it wrote down: it stands in nothing
     Rest : (candidate : ℕ) → Happens e (rests e candidate)
-    -- A keeper whose number gave the term to nobody, and whose fence is not above it, raises its fence to it and gives it to a candidate. One that gives a
-    -- round once does less.
+    -- A keeper whose number gave the term to nobody, and whose fence is not above it, raises its fence to it and gives it to a candidate, which may have
+    -- asked for it or not. A keeper that gives each round once does this too, less often.
     Give : (keeper candidate u : ℕ) (s : StoreView) → e.to u keeper ≡ None → e.world.stores keeper ≡ Some s → e.world.fence keeper ≤ u →
         Happens e (gave e keeper candidate u s)
     -- A candidate begins the term in which it stands, from a store with all that more than keepers - need keepers gave to it, which the term is new to, with
