@@ -3,6 +3,7 @@
 
 mod attending;
 mod deeds;
+mod flow;
 mod leadership;
 mod pace;
 mod read;
@@ -12,6 +13,7 @@ mod telling;
 mod told;
 
 pub use deeds::{Deed, Extent, FrameBytes};
+pub use flow::FLOW_LIMIT;
 pub use leadership::Leadership;
 pub use pace::Next;
 pub use said::Said;

@@ -28,7 +28,7 @@ fn reaches(counts: &Counts, others: &Counts) -> bool {
 }
 
 /// Whether what was acknowledged reaches what was sent, if anything was.
-fn has_come_to(acknowledgement: &Acknowledgement, sent: &Option<Counts>) -> bool {
+pub(crate) fn has_come_to(acknowledgement: &Acknowledgement, sent: &Option<Counts>) -> bool {
     match sent {
         Some(sent) => reaches(&acknowledgement.counts, sent),
         None => false,
@@ -50,13 +50,20 @@ impl Sent {
     }
 
     /// Those that were sent last.
-    pub(crate) fn last(&self) -> Option<Counts> {
+    pub(crate) fn last(&self) -> Option<Counts>
+        ensures { result ≡ self.now.last }
+    {
         self.last
+    }
+
+    /// Whether what was acknowledged reaches all that was sent, if anything was.
+    pub(crate) fn is_reached_by(&self, acknowledgement: &Acknowledgement) -> bool {
+        has_come_to(acknowledgement, &self.last)
     }
 
     /// How much a keeper has read that acknowledges this in the term, as far as that is known.
     pub(crate) fn read_by(&self, acknowledgement: &Acknowledgement) -> Option<Extent> {
-        if has_come_to(acknowledgement, &self.last) {
+        if self.is_reached_by(acknowledgement) {
             Some(Extent::All)
         } else if has_come_to(acknowledgement, &self.before) {
             Some(Extent::AllButLast)

@@ -1,4 +1,4 @@
-use Rattle.std.proofs.Common.{◌∙◌, [], inr, refl, sym, append-nil}
+use Rattle.std.proofs.Common.{◌∙◌, [], inr, refl, sym, append-nil, arith}
 use Rattle.primary_turns.proofs.Turning.{none_kept}
 use Rattle.primary_turns.proofs.leadership.cut_due.Goals as goal
 
@@ -8,3 +8,6 @@ returns-else-sends-clause-cuts c = (
   sym (append-nil c.args.deeds.now.items),
   inr (record { kept = sym c.kept.ensures ∙ none_kept c.kept.result c.sends.result c.sends.ensures c.if-sends.false; same = refl; added = refl }),
 )
+
+pub returns-else-sends-clause-ahead : goal.returns-else-sends-clause-ahead
+returns-else-sends-clause-ahead c = ([], sym (append-nil c.args.deeds.now.items), omega arith)
