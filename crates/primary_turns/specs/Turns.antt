@@ -4,7 +4,7 @@ use Rattle.std.specs.List.{flat_map}
 use Rattle.fragment_codec.specs.Streams.{spelling}
 use Rattle.fragment_codec.specs.declared.frame.Frame.{Frame}
 use Rattle.log_pieces.specs.Pieces.{IsCut, book_log}
-use Rattle.output_gate.specs.Gates.{kept_count}
+use Rattle.output_gate.specs.Gates.{waiting_count}
 use Rattle.primary.specs.Gating.{AreAllOffered, OffersMore}
 use Rattle.requests.specs.declared.queue.Came.TheVariants.{Busy}
 use Rattle.wire.specs.declared.acknowledgements.Acknowledgement.{Acknowledgement}
@@ -113,7 +113,7 @@ pub record Cuts (old new : LeaderView) (deeds : List Deed) : Type 0 where
 
 -- nothing is cut, nor sent, and no output waits for it
 pub record CutsNone (old new : LeaderView) (deeds : List Deed) : Type 0 where
-  pub kept : kept_count old.gate.gate.lines ≡ 0
+  pub waits : waiting_count old.gate.gate.lines ≡ 0
   pub same : new ≡ old
   pub added : deeds ≡ []
 

@@ -2,7 +2,7 @@
 
 ghost use Rattle.std.specs.Prelude.{◌≡◌, ◌+◌, ◌<◌, ◌≤◌, ◌⊎◌, length, replicate, slice_get, take, None, Some, IfOk, OnOk};
 ghost use Rattle.ft_types.specs.declared.names.TheConstants.{HART_ROW};
-ghost use Rattle.output_gate.specs.Gates.{kept_count};
+ghost use Rattle.output_gate.specs.Gates.{waiting_count};
 ghost use Rattle.primary_turns.specs.Deeds.{Adds, bytes_sent};
 ghost use Rattle.primary_turns.specs.Turns.{ComesAgain, Cuts, CutsNone, Leads, Rounds, TakesAll, seen};
 
@@ -43,7 +43,7 @@ fn rounds(alloc: Global, leader: Leader, steps: Count, spacing: Spacing) -> Resu
 {
     let mut leader = leader.round(alloc, steps, spacing)?;
     for _more in 1..SHORT_ROUNDS {
-        if steps > FIRST_ROUND || leader.kept() > 0 {
+        if steps > FIRST_ROUND || leader.waiting() > 0 {
             break;
         }
         leader = leader.round(alloc, steps, Spacing::Usual)?;
@@ -84,7 +84,7 @@ fn cut_due(
     ensures ahead { OnOk result (Adds deeds.old.items deeds.new.items (λ added. notes.new.flow.ahead ≡ notes.old.flow.ahead + bytes_sent added)) }
     ensures told { notes.new.told ≡ notes.old.told }
 {
-    if notes.pace.sends(leader.kept()) {
+    if notes.pace.sends(leader.waiting()) {
         cut(alloc, leader, &mut notes.sent, &mut notes.flow, deeds)
     } else {
         Ok(())

@@ -82,7 +82,7 @@ fn hear(
 {
     let heard = leader.hear(alloc, request)?;
     tell_heard(&mut notes.told, deeds, request, &heard)?;
-    notes.pace.note_heard(&heard, leader.kept() > 0);
+    notes.pace.note_heard(&heard, leader.waiting() > 0);
     Ok(!is_busy(&heard))
 }
 
@@ -186,7 +186,7 @@ fn take_tick(
     ensures { OnOk result (Adds deeds.old.items deeds.new.items
         (Takes (seen leader.now notes.old.told notes.old.flow.ahead) said.Tick (seen leader.now notes.new.told notes.new.flow.ahead))) }
 {
-    let waits = leader.kept() > 0 || notes.flow.rests();
+    let waits = leader.waiting() > 0 || notes.flow.rests();
     let findings = notes.attendance.tick(alloc, notes.sent.last(), waits)?;
     attend_all(deeds, &findings)?;
     Ok(())
