@@ -206,7 +206,7 @@ enum Deed {
     Again(Count),
     /// A keeper acknowledges all that the primary has, in a term.
     Held(u8, Term),
-    /// It keeps so many outputs, in its term.
+    /// So many of its outputs wait, in its term.
     HasWaiting(usize, Term),
     /// Its harts only wait.
     Waits,
