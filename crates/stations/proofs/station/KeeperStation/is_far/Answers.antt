@@ -12,6 +12,6 @@ returns-in-Opening c =
     let store : c.deref.result.now ≡ c.args.self.now.store = c.deref.ensures ∙ ap (λ (s : StationView). s.store) c.self.view_is in
     let at : IsPosition c.args.self.now.store p = subst (λ (s : StoreView). IsPosition s p) store c.position.ensures.position in
     let last : c.max-last.result ≡ max c.args.self.now.seen p.top =
-        c.max-last.ensures ∙ ap (λ (s : StationView). max s.seen p.top) c.self.view_is in
+    c.max-last.ensures ∙ ap (λ (s : StationView). max s.seen p.top) c.self.view_is in
     far_opening c.args.self.now c.args.frame.now opening p (sym c.frame.ensures ∙ c.in-Opening.is) at (IsTrue c.is_out_of_reach.result)
     (rw (← last, ← c.term.ensures) c.is_out_of_reach.ensures)
