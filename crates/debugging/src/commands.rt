@@ -18,7 +18,8 @@ ghost use Rattle.debugging.specs.Asked.{IsHex, IsRange, IsThread, IsFirstAction,
 
 use crate::numbers::{Thread, cut, first_byte, is, read_hex, read_range, read_thread};
 use crate::points::read_point;
-use moments::{Bytes, Point};
+use moments::Point;
+use plan_lines::Bytes;
 
 /// Where to go.
 #[derive(Clone, Copy)]

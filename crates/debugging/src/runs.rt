@@ -2,6 +2,7 @@
 
 ghost use Rattle.std.specs.Prelude.{◌≡◌, ◌<◌, ◌≤◌, IfSome, IfNone, IfOk, Some, length, slice_get};
 ghost use Rattle.hart_lease.specs.Runs.{counts_of};
+ghost use Rattle.debugging.specs.Monitor.{IsLastTouch};
 ghost use Rattle.debugging.specs.Sessions.{IsOfLine};
 ghost use Rattle.debugging.specs.Ways.{IsNextOr, HasStepped, HasSteppedBack, HasContinued, HasContinuedBack, Goes, arrival_at, reason_of_stop, watching_stop};
 
@@ -167,19 +168,20 @@ pub(crate) fn go(
     }
 }
 
-/// The step that touched what the point watches last, by its hart and count. The line stands before it then.
+/// The step that touched what the point watches last, by its hart and count. The line stands before it then, or at its beginning, where there is none.
 #[tactic(auto, using(crate::proofs::Lines::led_on, crate::proofs::Lines::stays, crate::proofs::Lines::goes_on))]
 pub(crate) fn last_touch(
     line: &mut Timeline,
     point: Point,
 ) -> Result<Option<(Hart, Count)>, ReplayFault>
     ensures line { IsOfLine line.old line.new }
+    ensures last { IfOk result (IsLastTouch point line.old line.new) }
 {
-    let Stop::At(_) = line.back_until(&[point])? else {
-        return Ok(None);
-    };
-    match line.next() {
-        Some(hart) => Ok(Some((hart, count_of(line, hart)))),
-        None => Ok(None),
+    match line.back_until(&[point])? {
+        Stop::At(_) => {
+            let hart = next_hart(line, Hart::new(0));
+            Ok(Some((hart, count_of(line, hart))))
+        }
+        Stop::Begin | Stop::End => Ok(None),
     }
 }
