@@ -92,6 +92,7 @@ bytes 0
 frames 0 bytes 0
 last term 0
 position term 0 counts 0 0 0 0
+grant 1
 rest 0" "$(cat out)"
 make 1 whole all
 says 'a whole log' 0 '' check "$image" whole
@@ -101,10 +102,15 @@ bytes $size
 frames $many bytes $size
 last term 1
 $place
+grant 2
 rest 0" "$(cat out)"
 "$live" hand "$image" 1 whole 7 > handed
 says 'a log that was fenced off' 0 '' check "$image" whole
 is 'has its fence' 'fence 7' "$(sed -n 2p out)"
+is 'and the next term' 'grant 8' "$(sed -n 7p out)"
+"$live" hand "$image" 1 whole 36864 > handed
+says 'a log that a candidate asked for' 0 '' check "$image" whole
+is 'has the next round for a person' 'grant 65536' "$(sed -n 7p out)"
 make 0 torn front
 head -c 20 all >> torn
 says 'a log that is torn' 0 '' check "$image" torn

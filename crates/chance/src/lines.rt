@@ -5,8 +5,10 @@ use fixtures::{Dice, hart};
 use ft_types::{Counts, Memory, PageNo};
 use guest_image::{Image, Machine};
 use hart_replay::{Plan, ReplayFault, replay_plain};
+use least_cuts::machine_at;
 use log_join::Store;
-use moments::{Access, Bytes, Point, Stop, Timeline, Watched, machine_at};
+use moments::{Point, Stop, Timeline, Watched};
+use plan_lines::{Access, Bytes};
 use std::alloc::Global;
 use std::test::Fail;
 

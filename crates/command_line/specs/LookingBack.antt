@@ -5,7 +5,7 @@ use Rattle.guest_image.specs.Image.{ImageContents, guest_of}
 use Rattle.guest_image.specs.Machine.{MachineState, boot_machine}
 use Rattle.guest_image.specs.Text.{machine_text}
 use Rattle.hart_replay.specs.declared.plans.PlannedLeg.{PlannedLeg}
-use Rattle.moments.specs.Line.{LineView}
+use Rattle.plan_lines.specs.Line.{LineView}
 use Rattle.least_cuts.specs.Cuts.{IsCutAt, IsLeastMachine}
 use Rattle.log_streams.specs.Streams.{AreJoined}
 use Rattle.log_streams.specs.Outcome.{ArePlannedTo}

@@ -2,7 +2,7 @@
 use Rattle.std.proofs.Common.{◌≡◌, ◌⊎◌, inl, inr, ℕ, ◌<◌, ◌≤◌, ◌+◌, ◌-◌, Bool, true, false, refl, subst, sym, ap, arith, List, Option, None, Some, slice_get}
 use Rattle.guest_image.specs.Machine.{MachineState}
 use Rattle.hart_lease.specs.Runs.{counts_of}
-use Rattle.moments.specs.Line.{LineView, IsAt}
+use Rattle.plan_lines.specs.Line.{LineView, IsAt}
 use Rattle.moments.specs.declared.points.Point.{Point}
 use Rattle.moments.specs.declared.points.Point.TheVariants.{Break, Watch}
 use Rattle.moments.specs.declared.points.Stop.{Stop}

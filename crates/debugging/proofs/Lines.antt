@@ -1,6 +1,6 @@
 -- A line that is led on.
 use Rattle.std.proofs.Common.{◌≡◌, ℕ, ◌<◌, ◌≤◌, ◌+◌, Bool, true, false, refl, ap, subst, sym, ◌∙◌}
-use Rattle.moments.specs.Line.{LineView, HasGoneOn, IsAtEnd, steps_of}
+use Rattle.plan_lines.specs.Line.{LineView, HasGoneOn, IsAtEnd, steps_of}
 use Rattle.debugging.specs.Sessions.{IsOfLine, IsFirstWith, IsBeforeStep}
 
 pub led_on : (b c : LineView) → c ≡ record b { stands = c.stands } → IsOfLine b c

@@ -1,7 +1,7 @@
 -- Points that packets name.
 use Rattle.std.proofs.Common.{◌≡◌, ◌⊎◌, inl, inr, ℕ, List, [], ◌∷◌, ◌++◌, Option, None, Some, refl, sym, ap, subst, ◌∙◌}
 use Rattle.std.specs.Prelude.{codes}
-use Rattle.moments.specs.declared.access.Bytes.{Bytes}
+use Rattle.plan_lines.specs.declared.access.Bytes.{Bytes}
 use Rattle.moments.specs.declared.points.Point.{Point}
 use Rattle.moments.specs.declared.points.Point.TheVariants.{Break, Watch}
 use Rattle.moments.specs.declared.points.Watched.TheVariants as watched

@@ -3,7 +3,7 @@ use Rattle.std.proofs.Common.{◌≡◌, ◌⊎◌, inl, inr, ℕ, suc, ◌+◌,
 use Rattle.std.specs.Prelude.{codes, decimal}
 use Rattle.guest_image.specs.Machine.{MachineState}
 use Rattle.hart_lease.specs.Runs.{counts_of}
-use Rattle.moments.specs.Line.{LineView}
+use Rattle.plan_lines.specs.Line.{LineView}
 use Rattle.moments.specs.Stops.{HasStoppedBack}
 use Rattle.moments.specs.declared.points.Point.{Point}
 use Rattle.moments.specs.declared.points.Stop.{Stop}
@@ -12,7 +12,7 @@ use Rattle.debugging.specs.Sessions.{SessionView, IsFirstWith}
 use Rattle.std.proofs.lemmas.Fmt.{decimal_injective}
 use Rattle.ft_types.specs.Text.{IsNumber}
 use Rattle.debugging.specs.Asked.{HasNone}
-use Rattle.moments.specs.declared.access.Bytes.{Bytes}
+use Rattle.plan_lines.specs.declared.access.Bytes.{Bytes}
 use Rattle.debugging.specs.Notes.{harts_of}
 use Rattle.debugging.specs.Monitor.{HasGoneTo, HasNoStep, HasStayed, IsPutBehind, TellsPlace, TellsWriter, Tells, counts_text, IsPlace, IsAddress, IsNamed, AsksToTell, Told, Where, GoTo, Who}
 use Rattle.debugging.proofs.Digits.{cut_is, uncut_is}

@@ -1,11 +1,11 @@
 -- What is answered.
-use Rattle.std.specs.Prelude.{◌≡◌, ◌⊎◌, ℕ, Bool, List, codes, option_map}
+use Rattle.std.specs.Prelude.{◌≡◌, ◌⊎◌, ℕ, Bool, List, [], codes, option_map}
 use Rattle.rv32_hart.specs.Hart.{Hart}
 use Rattle.debugging.specs.declared.session.Answer.{Answer}
 use Rattle.debugging.specs.declared.session.Answer.TheVariants as answer
 use Rattle.debugging.specs.declared.commands.Command.{Command}
 use Rattle.debugging.specs.declared.commands.Command.TheVariants as command
-use Rattle.debugging.specs.declared.commands.Other.TheVariants.{Query, Detach, Kill}
+use Rattle.debugging.specs.declared.commands.Other.TheVariants.{Query, Detach, Kill, Wrong, Unknown}
 use Rattle.debugging.specs.declared.commands.Show.{Show}
 use Rattle.debugging.specs.declared.commands.Show.TheVariants.{Why, Registers, Register, Memory}
 use Rattle.debugging.specs.Shown.{word_digits, registers_text, register_at, or_wrong}
@@ -45,7 +45,8 @@ Answers packet (command.Go way thread) s t a =
 Answers packet (command.Other Detach) s t a = SaysLast (codes "OK") a
 Answers packet (command.Other Kill) s t a = a ≡ answer.Over
 Answers packet (command.Other Query) s t a = (text : List ℕ) → AsksForText packet s text → (t ≡ s) × Says text a
-Answers packet (command.Other other) s t a = Unit {0}
+Answers packet (command.Other Unknown) s t a = Says [] a
+Answers packet (command.Other Wrong) s t a = Unit {0}
 
 -- the packet is answered as it must be, and the session before and behind it
 pub record IsAnswered (packet : List ℕ) (s t : SessionView) (a : Answer) : Type 0 where

@@ -4,7 +4,7 @@ use Rattle.gdb_packets.specs.declared.event.Event.{Event}
 use Rattle.gdb_packets.specs.declared.event.Event.TheVariants as event
 use Rattle.gdb_packets.specs.Packets.{spelling}
 use Rattle.gdb_packets.specs.Streams.{Unread, Follows}
-use Rattle.moments.specs.Line.{LineView}
+use Rattle.plan_lines.specs.Line.{LineView}
 use Rattle.debugging.specs.declared.session.Answer.{Answer}
 use Rattle.debugging.specs.declared.session.Answer.TheVariants.{Says, SaysLast, Over}
 use Rattle.debugging.specs.Sessions.{SessionView, session_at}

@@ -3,9 +3,9 @@ use Rattle.std.specs.Prelude.{◌≡◌, ◌⊎◌, ℕ, zero, suc, List, [], �
 use Rattle.ft_types.specs.Text.{IsNumber}
 use Rattle.guest_image.specs.Machine.{MachineState}
 use Rattle.hart_lease.specs.Runs.{counts_of}
-use Rattle.moments.specs.Line.{LineView, InLeg, steps_of}
+use Rattle.plan_lines.specs.Line.{LineView, InLeg, steps_of}
 use Rattle.moments.specs.Stops.{HasStoppedBack}
-use Rattle.moments.specs.declared.access.Bytes.{Bytes}
+use Rattle.plan_lines.specs.declared.access.Bytes.{Bytes}
 use Rattle.moments.specs.declared.points.Point.{Point}
 use Rattle.moments.specs.declared.points.Point.TheVariants.{Watch}
 use Rattle.moments.specs.declared.points.Watched.TheVariants.{Write}

@@ -3,7 +3,7 @@ use Rattle.std.specs.Prelude.{ℕ, ◌≡◌, ◌+◌, ◌<◌, List, [], Some, 
 use Rattle.rv32_hart.specs.Hart.{Hart}
 use Rattle.guest_image.specs.Machine.{MachineState}
 use Rattle.hart_lease.specs.Runs.{counts_of}
-use Rattle.moments.specs.Line.{LineView, IsAt}
+use Rattle.plan_lines.specs.Line.{LineView, IsAt}
 use Rattle.moments.specs.declared.points.Point.{Point}
 
 -- a timeline, the hart of which more is asked, the one whose steps are taken, and where it stops

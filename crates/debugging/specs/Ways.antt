@@ -2,7 +2,7 @@
 use Rattle.std.specs.Prelude.{◌≡◌, ◌⊎◌, ℕ, ◌+◌, ◌-◌, ◌<◌, List, [], Option, Some, None, length, slice_get}
 use Rattle.guest_image.specs.Machine.{MachineState}
 use Rattle.hart_lease.specs.Runs.{counts_of}
-use Rattle.moments.specs.Line.{LineView, InLeg, IsAt, IsNext, NoneMayGo}
+use Rattle.plan_lines.specs.Line.{LineView, InLeg, IsAt, IsNext, NoneMayGo}
 use Rattle.moments.specs.Stops.{HasStopped, HasStoppedBack}
 use Rattle.moments.specs.declared.points.Point.{Point}
 use Rattle.moments.specs.declared.points.Point.TheVariants.{Watch}

@@ -5,7 +5,8 @@ ghost use Rattle.rv32_hart.specs.Access.{in_ram};
 ghost use Rattle.debugging.specs.Memories.{ShowsBytes, byte_in, memory_answer};
 
 use ft_types::Memory;
-use moments::{Bytes, Timeline};
+use moments::Timeline;
+use plan_lines::Bytes;
 use std::alloc::Global;
 
 /// The number of bytes that one packet shows at the most.

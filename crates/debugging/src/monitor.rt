@@ -2,7 +2,7 @@
 
 ghost use Rattle.std.specs.Prelude.{◌≡◌, ℕ, ◌≤◌, ◌<◌, ◌++◌, Some, OnOk, codes, length};
 ghost use Rattle.ft_types.specs.declared.names.TheConstants.{HART_LIMIT};
-ghost use Rattle.moments.specs.Line.{steps_of};
+ghost use Rattle.plan_lines.specs.Line.{steps_of};
 ghost use Rattle.debugging.specs.Monitor.{step_text, writer_text, moment_text, counts_text, IsPutBehind, TellsPlace, TellsWriter, HasStayed, HasGoneTo, IsPlace, IsAddress, IsNamed, AsksToTell, Tells, Told, Who};
 ghost use Rattle.debugging.specs.Notes.{harts_of};
 ghost use Rattle.debugging.specs.Sessions.{IsOfLine};
@@ -15,7 +15,8 @@ use crate::stops::{put, put_number};
 use ft_types::{Count, Hart, Memory, read_number};
 use hart_replay::{PlannedLeg, ReplayFault};
 use hex::FromHexError;
-use moments::{Access, Bytes, Point, Timeline, Watched};
+use moments::{Point, Timeline, Watched};
+use plan_lines::{Access, Bytes};
 use std::alloc::Global;
 
 /// How many steps `race` looks at, at the most.

@@ -6,7 +6,7 @@ ghost use Rattle.debugging.specs.declared.numbers.Thread.{Thread as ThreadOf};
 ghost use Rattle.debugging.specs.Asked.{IsHex, IsRange, IsThread, IsOfHart, HasNone};
 
 use ft_types::{Hart, read_word};
-use moments::Bytes;
+use plan_lines::Bytes;
 
 /// A thread, as packets name it: threads are numbered from 1 on.
 #[derive(Clone, Copy)]

@@ -10,7 +10,8 @@ ghost use Rattle.debugging.specs.Points.{watched_kind, is_same_point, points_wit
 
 use crate::numbers::{cut, first_byte, is, read_range};
 use ft_types::Memory;
-use moments::{Bytes, Point, Watched};
+use moments::{Point, Watched};
+use plan_lines::Bytes;
 
 /// The number of points that a session has at the most.
 pub(crate) const POINT_LIMIT: usize = 256;

@@ -296,7 +296,7 @@ impl Session {
         // What a packet asks for is answered as it must be.
         ensures answers { (command : CommandOf) → AsksFor packet.now command → IfOk result (Answers packet.now command self.old self.new) }
 
-        // What is only shown, would be another past, or ends the session changes nothing.
+        // What is only shown, would be another past, ends the session or is not known changes nothing.
         ensures still { (command : CommandOf) → AsksFor packet.now command → IsStill command → self.new ≡ self.old }
 
         // It stands on the same line, whatever comes.

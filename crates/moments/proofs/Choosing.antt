@@ -4,7 +4,7 @@ use Rattle.std.proofs.lemmas.Bool.{cases_lt}
 use Rattle.guest_image.specs.Machine.{MachineState}
 use Rattle.hart_lease.specs.Runs.{counts_of}
 use Rattle.hart_replay.specs.declared.plans.PlannedLeg.{PlannedLeg}
-use Rattle.moments.specs.Line.{MayGo}
+use Rattle.plan_lines.specs.Line.{MayGo}
 use Rattle.moments.specs.machinery.Choices.{Chosen}
 
 -- the hart has fewer steps than the one so far

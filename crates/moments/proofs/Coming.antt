@@ -2,9 +2,9 @@
 use Rattle.std.proofs.Common.{◌≡◌, ℕ, ◌-◌, ◌<◌, ◌≤◌, Bool, true, false, arith}
 use Rattle.guest_image.specs.Machine.{MachineState}
 use Rattle.hart_lease.specs.Runs.{counts_of}
-use Rattle.moments.specs.Line.{LineView, IsAt, HasGoneOn, steps_of}
+use Rattle.plan_lines.specs.Line.{LineView, IsAt, HasGoneOn, steps_of}
 use Rattle.moments.proofs.Stopping.{IsElsewhere, line_on, nearer}
-use Rattle.moments.proofs.Rises.{AreFewer, LeadsThere, fewer_next, went_on}
+use Rattle.plan_lines.proofs.Rises.{AreFewer, LeadsThere, fewer_next, went_on}
 
 -- it leads from the first to the second, and each earlier moment has fewer steps of the hart
 pub record IsComing (a b : LineView) (hart count : ℕ) : Type 0 where

@@ -11,17 +11,18 @@ use Rattle.hart_replay.specs.declared.plans.PlannedLeg.{PlannedLeg}
 use Rattle.hart_replay.specs.Plans.{log_of}
 use Rattle.hart_replay.proofs.Fronts.{past_all}
 use Rattle.least_cuts.proofs.Legs.{one_leg, some_is}
-use Rattle.moments.specs.declared.access.Access.{Access}
-use Rattle.moments.specs.declared.access.Access.TheVariants.{Nothing}
+use Rattle.plan_lines.specs.declared.access.Access.{Access}
+use Rattle.plan_lines.specs.declared.access.Access.TheVariants.{Nothing}
 use Rattle.moments.specs.declared.points.Point.{Point}
 use Rattle.moments.specs.declared.points.Point.TheVariants.{Break, Watch}
-use Rattle.moments.specs.Line.{InLeg, IsNext, NoneMayGo, Standing, standing_at, Leads, LineView}
-use Rattle.moments.specs.Points.{IsStepFrom, StepAt, used_next, Breaks, Watches, BreaksAt, WatchesAt, IsOne, NoneFrom}
-use Rattle.moments.specs.machinery.Kept.{IsTurned}
+use Rattle.plan_lines.specs.Line.{InLeg, IsNext, NoneMayGo, Standing, standing_at, Leads, LineView}
+use Rattle.plan_lines.specs.Uses.{IsStepFrom, StepAt, used_next}
+use Rattle.moments.specs.Points.{Breaks, Watches, BreaksAt, WatchesAt, IsOne, NoneFrom}
+use Rattle.plan_lines.specs.machinery.Kept.{IsTurned}
 use Rattle.moments.proofs.Keeping.{leg_there}
 use Rattle.moments.proofs.Lines.{if_some, if_none}
-use Rattle.moments.proofs.Moves.{Move, one_next, none_at_ends, parted, along, later}
-use Rattle.moments.proofs.Moves.{Step, Turn}
+use Rattle.plan_lines.proofs.Moves.{Move, one_next, none_at_ends, parted, along, later}
+use Rattle.plan_lines.proofs.Moves.{Step, Turn}
 
 -- of two standings at one moment, the second of which has a step, the first leads to the second by turns alone
 not_behind : (legs : List PlannedLeg) (a b : Standing) (h : Hart) (access : Access) → Leads legs a b → a.moment ≡ b.moment →

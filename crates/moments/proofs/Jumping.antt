@@ -6,11 +6,11 @@ use Rattle.guest_image.specs.Machine.{MachineState, boot_machine}
 use Rattle.hart_replay.specs.declared.plans.PlannedLeg.{PlannedLeg}
 use Rattle.hart_replay.specs.Plans.{IsPlan}
 use Rattle.moments.specs.declared.snapshots.Snapshot.{Snapshot}
-use Rattle.moments.specs.Line.{LineView, Standing, standing_at, Leads}
-use Rattle.moments.specs.Line.{Begins}
+use Rattle.plan_lines.specs.Line.{LineView, Standing, standing_at, Leads}
+use Rattle.plan_lines.specs.Line.{Begins}
 use Rattle.moments.specs.machinery.Machines.{standing_of}
-use Rattle.moments.specs.machinery.Kept.{IsBegun, Stands, IsTimeline, QuietAt, IsTurned, OnLine}
-use Rattle.moments.proofs.Cutting.{begun_at_boot}
+use Rattle.plan_lines.specs.machinery.Kept.{IsBegun, Stands, IsTimeline, QuietAt, IsTurned, OnLine}
+use Rattle.plan_lines.proofs.Cutting.{begun_at_boot}
 use Rattle.moments.proofs.Lines.{line_of, kept_stands, first_stands, on_line}
 
 -- a line's first snapshot is at moment 0

@@ -3,10 +3,10 @@ use Rattle.std.proofs.Common.{◌≡◌, ◌⊎◌, inl, inr, ℕ, zero, suc, �
 use Rattle.ft_types.specs.Guests.{GuestParts}
 use Rattle.hart_replay.specs.declared.plans.PlannedLeg.{PlannedLeg}
 use Rattle.hart_replay.specs.Leading.{AreAtEnds}
-use Rattle.moments.specs.Line.{IsNext, Standing, Leads, steps_of}
-use Rattle.moments.specs.Line.{Begins, StepsOn, TurnsOn}
-use Rattle.moments.specs.machinery.Kept.{IsBegun, Stands, IsTurned}
-use Rattle.moments.proofs.Standings.{holds_at, room, within_all, all_taken}
+use Rattle.plan_lines.specs.Line.{IsNext, Standing, Leads, steps_of}
+use Rattle.plan_lines.specs.Line.{Begins, StepsOn, TurnsOn}
+use Rattle.plan_lines.specs.machinery.Kept.{IsBegun, Stands, IsTurned}
+use Rattle.plan_lines.proofs.Standings.{holds_at, room, within_all, all_taken}
 
 -- where there is no leg the line leads nowhere
 nowhere : (legs : List PlannedLeg) (s t : Standing) → length legs ≡ 0 → Leads legs s t → t ≡ s

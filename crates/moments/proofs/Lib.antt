@@ -1,5 +1,3 @@
-pub mod Moves
-pub mod Standings
 pub mod Parts
 pub mod Choosing
 pub mod Stepping
@@ -10,16 +8,8 @@ pub mod Lines
 pub mod Jumping
 pub mod Ending
 pub mod Taking
-pub mod Cutting
-pub mod Histories
 pub mod Hits
 pub mod Picking
 pub mod Stopping
 pub mod Coming
-pub mod Rises
-pub mod Interrupts
 pub mod Uses
-pub mod Telling
-pub mod Regular
-pub mod Written
-pub mod Seen

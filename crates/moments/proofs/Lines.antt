@@ -10,13 +10,13 @@ use Rattle.hart_replay.specs.declared.plans.PlannedLeg.{PlannedLeg}
 use Rattle.hart_replay.proofs.Fronts.{there}
 use Rattle.least_cuts.proofs.Legs.{one_leg}
 use Rattle.moments.specs.declared.snapshots.Snapshot.{Snapshot}
-use Rattle.moments.specs.Line.{LineView, InLeg, IsAt, IsNext, NoneMayGo, Standing, standing_at, Leads, ends_of, steps_of}
-use Rattle.moments.specs.Line.{Begins}
+use Rattle.plan_lines.specs.Line.{LineView, InLeg, IsAt, IsNext, NoneMayGo, Standing, standing_at, Leads, ends_of, steps_of}
+use Rattle.plan_lines.specs.Line.{Begins}
 use Rattle.moments.specs.machinery.Machines.{standing_of}
-use Rattle.moments.specs.machinery.Kept.{IsBegun, Stands, IsTimeline, AreQuiet, QuietAt, IsTurned, OnLine}
+use Rattle.plan_lines.specs.machinery.Kept.{IsBegun, Stands, IsTimeline, AreQuiet, QuietAt, IsTurned, OnLine}
 use Rattle.moments.proofs.Keeping.{moment_within}
-use Rattle.moments.proofs.Standings.{last_is}
-use Rattle.moments.proofs.Rises.{counts_most, counts_all}
+use Rattle.plan_lines.proofs.Standings.{last_is}
+use Rattle.plan_lines.proofs.Rises.{counts_most, counts_all}
 
 -- a timeline as contracts see it
 abbrev pub line_of : GuestParts → List PlannedLeg → Standing → Standing → LineView

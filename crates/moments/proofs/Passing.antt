@@ -17,7 +17,7 @@ use Rattle.hart_replay.specs.declared.plans.PlannedLeg.{PlannedLeg}
 use Rattle.hart_replay.specs.Plans.{log_of}
 use Rattle.hart_replay.specs.Replays.{is_halted}
 use Rattle.log_audit.proofs.Bringing.{in_filter, of_filter}
-use Rattle.moments.specs.Line.{MayGo}
+use Rattle.plan_lines.specs.Line.{MayGo}
 
 true_or_false : true ≡ false → ⊥
 true_or_false e = cc

@@ -2,7 +2,7 @@
 use Rattle.std.proofs.Common.{◌≡◌, inl, inr, ℕ, ◌+◌, ◌-◌, ◌<◌, ◌≤◌, Bool, true, false, List, Option, Some, None, IfSome, IfNone, refl, ap, sym, subst, ◌∙◌, arith}
 use Rattle.std.proofs.lemmas.Bool.{cases_lt}
 use Rattle.moments.specs.declared.points.Point.{Point}
-use Rattle.moments.specs.Line.{LineView, IsAtEnd, HasGoneOn, steps_of}
+use Rattle.plan_lines.specs.Line.{LineView, IsAtEnd, HasGoneOn, steps_of}
 use Rattle.moments.specs.Points.{BreaksAt, WatchesAt, HoldsAt, HitsAt, IsOne, NoneFrom}
 use Rattle.moments.specs.declared.points.Stop.TheVariants.{At, End, Begin}
 use Rattle.moments.specs.Stops.{HasStopped, HasStoppedBack, LastHit}

@@ -4,9 +4,9 @@ use Rattle.ft_types.specs.Guests.{GuestParts}
 use Rattle.hart_replay.specs.declared.plans.PlannedLeg.{PlannedLeg}
 use Rattle.hart_replay.proofs.Fronts.{at_place}
 use Rattle.least_cuts.proofs.Legs.{one_leg}
-use Rattle.moments.specs.Line.{LineView, InLeg, IsNext, Steps, Standing, stepped, Leads, steps_of}
-use Rattle.moments.specs.Line.{StepsOn}
-use Rattle.moments.specs.machinery.Kept.{IsTimeline, AreQuiet, QuietAt, IsTurned}
+use Rattle.plan_lines.specs.Line.{LineView, InLeg, IsNext, Steps, Standing, stepped, Leads, steps_of}
+use Rattle.plan_lines.specs.Line.{StepsOn}
+use Rattle.plan_lines.specs.machinery.Kept.{IsTimeline, AreQuiet, QuietAt, IsTurned}
 use Rattle.moments.proofs.Keeping.{step_room}
 use Rattle.moments.proofs.Lines.{line_of}
 

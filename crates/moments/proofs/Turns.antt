@@ -18,10 +18,10 @@ use Rattle.hart_replay.specs.Plans.{log_of}
 use Rattle.log_audit.specs.machinery.Covered.{IsQuietTo}
 use Rattle.hart_replay.specs.Leading.{AreAtEnds}
 use Rattle.least_cuts.proofs.Legs.{one_leg}
-use Rattle.moments.specs.Line.{IsNext, Steps, turn_in, Standing, Leads}
-use Rattle.moments.specs.Line.{TurnsOn}
-use Rattle.moments.specs.machinery.Kept.{AreQuiet, QuietAt, IsTurned}
-use Rattle.moments.proofs.Standings.{counts_step}
+use Rattle.plan_lines.specs.Line.{IsNext, Steps, turn_in, Standing, Leads}
+use Rattle.plan_lines.specs.Line.{TurnsOn}
+use Rattle.plan_lines.specs.machinery.Kept.{AreQuiet, QuietAt, IsTurned}
+use Rattle.plan_lines.proofs.Standings.{counts_step}
 
 -- no hart is known to be quiet
 zeros : (n hart : ℕ) → slice_index (replicate n 0) hart ≡ 0

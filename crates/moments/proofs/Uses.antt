@@ -8,11 +8,11 @@ use Rattle.rv32_hart.specs.Hart.{Hart}
 use Rattle.rv32_hart.specs.Ram.{word_at}
 use Rattle.rv32_hart.specs.Csrs.{interrupt_of, received_all}
 use Rattle.rv32_hart.specs.Access.{in_ram, page_at, offset_at, load_width, store_width}
-use Rattle.moments.specs.declared.access.Access.{Access}
-use Rattle.moments.specs.declared.access.Access.TheVariants.{Nothing, Reads, Writes, Changes}
-use Rattle.moments.specs.Points.{used_at, used_by, used_by_word, used_in, used_next, unless_interrupted}
+use Rattle.plan_lines.specs.declared.access.Access.{Access}
+use Rattle.plan_lines.specs.declared.access.Access.TheVariants.{Nothing, Reads, Writes, Changes}
+use Rattle.plan_lines.specs.Uses.{used_at, used_by, used_by_word, used_in, used_next, unless_interrupted}
 use Rattle.least_cuts.proofs.Legs.{some_is}
-use Rattle.moments.proofs.Interrupts.{received_pc, received_registers}
+use Rattle.plan_lines.proofs.Interrupts.{received_pc, received_registers}
 
 if_yes : {A : Type 0} (b : Bool) (x y z : A) → b ≡ true → z ≡ x → z ≡ (if b then x else y)
 if_yes true x y z is same = same

@@ -3,7 +3,7 @@ use Rattle.std.specs.Prelude.{ℕ, ◌≡◌, ◌+◌, ◌<◌, ◌≤◌, List,
 use Rattle.moments.specs.declared.points.Point.{Point}
 use Rattle.moments.specs.declared.points.Stop.{Stop}
 use Rattle.moments.specs.declared.points.Stop.TheVariants.{At, End, Begin}
-use Rattle.moments.specs.Line.{LineView, IsAtEnd}
+use Rattle.plan_lines.specs.Line.{LineView, IsAtEnd}
 use Rattle.moments.specs.Points.{HoldsAt, HitsAt, IsOne, NoneFrom}
 
 -- it went on to the first later moment at which a point holds; or to the end, where none does

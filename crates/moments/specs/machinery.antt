@@ -1,5 +1,3 @@
 pub mod Parts
 pub mod Machines
-pub mod Kept
 pub mod Choices
-pub mod Pending

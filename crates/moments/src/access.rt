@@ -6,37 +6,16 @@ ghost use Rattle.rv32_hart.specs.Hart.{Hart as HartRecord};
 ghost use Rattle.rv32_hart.specs.Csrs.{received_all, interrupt_of, first_interrupt};
 ghost use Rattle.rv32_hart.specs.Access.{in_ram as is_in_ram, page_at, offset_at, load_width as width_of_load, store_width as width_of_store};
 ghost use Rattle.moments.specs.machinery.Machines.{machine_of};
-ghost use Rattle.moments.specs.Points.{Overlap, used_by as used_by_of, used_next, word_in};
+ghost use Rattle.plan_lines.specs.Uses.{Overlap, used_by as used_by_of, used_next, word_in};
 ghost use Rattle.ft_types.specs.declared.names.TheConstants.{PAGE_LIMIT};
-ghost use Rattle.moments.specs.machinery.Pending.{mip_after, bit_of as bit_of_specs};
+ghost use Rattle.plan_lines.specs.machinery.Pending.{mip_after, bit_of as bit_of_specs};
 
 use crate::machines::SteppedMachine;
 use ft_types::{Hart, PAGE_BYTES, PageNo};
 use input_log::Input;
+use plan_lines::{Access, Bytes};
 use rv32_hart::{HartState, RAM_BASE};
 use rv32_isa::{Instr, LoadKind, Reg, StoreKind, decode};
-
-/// Bytes that follow one another.
-#[derive(Clone, Copy, PartialEq, Eq)]
-pub struct Bytes {
-    /// The address of the first one.
-    pub first: u32,
-    /// How many there are.
-    pub length: u32,
-}
-
-/// Which bytes of RAM a step uses beside the word that it fetches.
-#[derive(Clone, Copy, PartialEq, Eq)]
-pub enum Access {
-    /// None.
-    Nothing,
-    /// A load reads these.
-    Reads(Bytes),
-    /// A store writes these.
-    Writes(Bytes),
-    /// An atomic operation reads and writes these.
-    Changes(Bytes),
-}
 
 /// Whether the first bytes and the second have one in common.
 pub(crate) fn overlap(these: Bytes, those: Bytes) -> bool

@@ -2,7 +2,6 @@
 #![tactic(auto)]
 
 mod access;
-mod laws;
 mod machines;
 mod next;
 mod points;
@@ -12,7 +11,5 @@ mod timeline;
 mod travel;
 mod turning;
 
-pub use access::{Access, Bytes};
-pub use laws::{honest_moments, seen_accesses};
 pub use points::{Point, Stop, Watched};
 pub use timeline::Timeline;

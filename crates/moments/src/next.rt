@@ -8,9 +8,9 @@ ghost use Rattle.hart_lease.specs.Runs.{counts_of};
 ghost use Rattle.hart_replay.specs.Plans.{log_of};
 ghost use Rattle.hart_replay.specs.Leading.{AreAtEnds};
 ghost use Rattle.log_audit.specs.machinery.Covered.{IsQuietTo};
-ghost use Rattle.moments.specs.Line.{MayGo, IsNext, NoneMayGo};
+ghost use Rattle.plan_lines.specs.Line.{MayGo, IsNext, NoneMayGo};
 ghost use Rattle.moments.specs.machinery.Machines.{machine_of};
-ghost use Rattle.moments.specs.machinery.Kept.{AreQuiet};
+ghost use Rattle.plan_lines.specs.machinery.Kept.{AreQuiet};
 ghost use Rattle.moments.specs.machinery.Choices.{Chosen};
 
 use crate::machines::SteppedMachine;

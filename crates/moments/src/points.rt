@@ -5,7 +5,8 @@ ghost use Rattle.moments.specs.declared.points.Point.{Point as point_of_specs};
 ghost use Rattle.moments.specs.declared.points.Point.TheVariants.{Watch};
 ghost use Rattle.moments.specs.Points.{Breaks, IsRead, IsWrite, Watches};
 
-use crate::access::{Access, Bytes, overlap};
+use crate::access::overlap;
+use plan_lines::{Access, Bytes};
 
 /// What is watched.
 #[derive(Clone, Copy)]

@@ -5,9 +5,9 @@ ghost use Rattle.ft_types.specs.declared.names.TheConstants.{HART_ROW, INPUT_LIM
 ghost use Rattle.input_log.specs.Inputs.{inputs_at, inputs_of};
 ghost use Rattle.hart_lease.specs.Runs.{counts_of};
 ghost use Rattle.hart_replay.specs.declared.plans.PlannedLeg.{PlannedLeg as planned_leg};
-ghost use Rattle.moments.specs.Line.{Standing, Leads, IsNext, Steps};
+ghost use Rattle.plan_lines.specs.Line.{Standing, Leads, IsNext, Steps};
 ghost use Rattle.moments.specs.machinery.Machines.{machine_of, standing_of};
-ghost use Rattle.moments.specs.machinery.Kept.{AreQuiet, IsLed, IsTurned, QuietAt};
+ghost use Rattle.plan_lines.specs.machinery.Kept.{AreQuiet, IsLed, IsTurned, QuietAt};
 
 use crate::next::{Stops, are_at_ends, stop_of};
 use crate::snapshots::Snapshot;

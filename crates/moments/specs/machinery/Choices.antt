@@ -2,7 +2,7 @@
 use Rattle.std.specs.Prelude.{ℕ, ◌<◌, Option, Some, None}
 use Rattle.guest_image.specs.Machine.{MachineState}
 use Rattle.hart_replay.specs.declared.plans.PlannedLeg.{PlannedLeg}
-use Rattle.moments.specs.Line.{MayGo, ComesFirst}
+use Rattle.plan_lines.specs.Line.{MayGo, ComesFirst}
 
 -- of the first harts it is the first that may go
 pub record IsFirstOf (leg : PlannedLeg) (m : MachineState) (many hart : ℕ) : Type 0 where

@@ -3,7 +3,7 @@ use Rattle.guest_image.specs.Machine.{MachineState}
 use Rattle.moments.specs.declared.machines.SteppedMachine.{SteppedMachine}
 use Rattle.moments.specs.declared.snapshots.Snapshot.{Snapshot}
 use Rattle.moments.specs.machinery.Parts.{contents_of}
-use Rattle.moments.specs.Line.{Standing}
+use Rattle.plan_lines.specs.Line.{Standing}
 
 abbrev pub machine_of : SteppedMachine → MachineState
 machine_of m = record { harts = m.harts.items; pages = contents_of m.ram.parts.items }

@@ -1,8 +1,8 @@
 use Rattle.std.proofs.Common.{◌≡◌, refl}
 use Rattle.rv32_hart.specs.Hart.{Hart}
 use Rattle.rv32_hart.specs.Csrs.{received_all}
-use Rattle.moments.specs.declared.access.Access.TheVariants.{Nothing}
-use Rattle.moments.specs.Points.{used_next}
+use Rattle.plan_lines.specs.declared.access.Access.TheVariants.{Nothing}
+use Rattle.plan_lines.specs.Uses.{used_next}
 use Rattle.moments.specs.machinery.Machines.{machine_of}
 use Rattle.moments.proofs.Uses.{of_found, used_outside, used_fetched}
 use Rattle.moments.proofs.access.access_of.Goals as goal

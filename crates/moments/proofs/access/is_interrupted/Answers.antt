@@ -1,7 +1,7 @@
 use Rattle.std.proofs.Common.{◌↔◌, ◌∙◌, ℕ, List, ap, subst, bit_and, slice_index_or, IsTrue, IsSome}
 use Rattle.rv32_hart.specs.Csrs.{first_interrupt}
-use Rattle.moments.specs.machinery.Pending.{mip_after}
-use Rattle.moments.proofs.Interrupts.{taken_on, not_taken}
+use Rattle.plan_lines.specs.machinery.Pending.{mip_after}
+use Rattle.plan_lines.proofs.Interrupts.{taken_on, not_taken}
 use Rattle.moments.proofs.access.is_interrupted.Goals as goal
 
 pub returns-then-mstatus-eq1 : goal.returns-then-mstatus-eq1

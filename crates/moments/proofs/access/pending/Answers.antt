@@ -1,6 +1,6 @@
 use Rattle.std.proofs.Common.{◌∙◌, ap, bit_or, arith}
 use Rattle.log_audit.proofs.Lists.{get_at}
-use Rattle.moments.proofs.Interrupts.{mip_next}
+use Rattle.plan_lines.proofs.Interrupts.{mip_next}
 use Rattle.moments.proofs.access.pending.Goals as goal
 
 pub loop-input-preserved : goal.loop-input-preserved

@@ -1,5 +1,5 @@
 use Rattle.std.proofs.Common.{◌≡◌, take}
-use Rattle.moments.specs.machinery.Pending.{mip_after}
+use Rattle.plan_lines.specs.machinery.Pending.{mip_after}
 use Rattle.moments.proofs.access.pending.Given as goal
 
 abbrev pub invariant-loop-input : goal.invariant-loop-input

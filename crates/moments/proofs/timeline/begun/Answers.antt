@@ -1,5 +1,5 @@
 use Rattle.std.proofs.Common.{◌≤◌, ◌-◌, ◌∙◌, length, ap, sym, subst}
-use Rattle.moments.specs.Line.{Standing, steps_of}
+use Rattle.plan_lines.specs.Line.{Standing, steps_of}
 use Rattle.moments.specs.machinery.Machines.{standing_of}
 use Rattle.moments.proofs.Turns.{quiet_none}
 use Rattle.moments.proofs.Jumping.{first_place, timeline_begun}

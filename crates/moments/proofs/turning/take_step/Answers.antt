@@ -3,7 +3,7 @@ use Rattle.std.proofs.lemmas.Result.{on_ok_weaker}
 use Rattle.ft_types.specs.declared.names.TheConstants.{HART_ROW}
 use Rattle.hart_lease.specs.Runs.{steps_taken}
 use Rattle.moments.specs.machinery.Machines.{machine_of}
-use Rattle.moments.specs.machinery.Kept.{AreQuiet}
+use Rattle.plan_lines.specs.machinery.Kept.{AreQuiet}
 use Rattle.moments.proofs.Turns.{as_many, no_inputs, quiet_on, quiet_put}
 use Rattle.moments.proofs.turning.take_step.Goals as goal
 

@@ -1,7 +1,7 @@
 use Rattle.std.proofs.Common.{◌≡◌, ◌≤◌, ◌-◌, length}
-use Rattle.moments.specs.Line.{Standing, Leads}
+use Rattle.plan_lines.specs.Line.{Standing, Leads}
 use Rattle.moments.specs.machinery.Machines.{machine_of, standing_of}
-use Rattle.moments.specs.machinery.Kept.{QuietAt}
+use Rattle.plan_lines.specs.machinery.Kept.{QuietAt}
 use Rattle.moments.proofs.turning.turn.Given as goal
 
 abbrev pub invariant-loop-now : goal.invariant-loop-now

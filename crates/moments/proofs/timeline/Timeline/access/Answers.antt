@@ -1,6 +1,6 @@
 use Rattle.std.proofs.Common.{◌<◌, ap, sym, subst, length, refl}
-use Rattle.moments.specs.Line.{LineView}
-use Rattle.moments.specs.declared.access.Access.TheVariants.{Nothing}
+use Rattle.plan_lines.specs.Line.{LineView}
+use Rattle.plan_lines.specs.declared.access.Access.TheVariants.{Nothing}
 use Rattle.moments.specs.machinery.Machines.{machine_of}
 use Rattle.moments.proofs.Hits.{step_used, uses_same, none_uses}
 use Rattle.moments.proofs.timeline.Timeline.access.Goals as goal

@@ -1,7 +1,7 @@
 use Rattle.std.proofs.Common.{◌≡◌, ◌∙◌, List, ap, arith}
 use Rattle.ft_types.specs.Counts.{count_at}
 use Rattle.hart_replay.specs.declared.plans.PlannedLeg.{PlannedLeg}
-use Rattle.moments.specs.Line.{LineView, ends_of}
+use Rattle.plan_lines.specs.Line.{LineView, ends_of}
 use Rattle.moments.proofs.Lines.{most_at, all_at}
 use Rattle.moments.proofs.timeline.Timeline.end_of.Goals as goal
 

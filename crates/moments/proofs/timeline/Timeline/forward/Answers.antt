@@ -1,5 +1,5 @@
 use Rattle.std.proofs.Common.{sym, subst}
-use Rattle.moments.specs.Line.{LineView, InLeg, IsNext}
+use Rattle.plan_lines.specs.Line.{LineView, InLeg, IsNext}
 use Rattle.moments.proofs.timeline.Timeline.forward.Goals as goal
 
 pub take-requires-clause-next : goal.take-requires-clause-next

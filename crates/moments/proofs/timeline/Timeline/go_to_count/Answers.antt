@@ -1,6 +1,6 @@
 use Rattle.std.proofs.Common.{arith, refl}
 use Rattle.moments.proofs.Stopping.{line_kept}
-use Rattle.moments.proofs.Rises.{fewer_first, count_there}
+use Rattle.plan_lines.proofs.Rises.{fewer_first, count_there}
 use Rattle.moments.proofs.Coming.{comes_next}
 use Rattle.moments.proofs.timeline.Timeline.go_to_count.Goals as goal
 

@@ -1,5 +1,5 @@
 use Rattle.std.proofs.Common.{◌-◌}
-use Rattle.moments.specs.Line.{steps_of}
+use Rattle.plan_lines.specs.Line.{steps_of}
 use Rattle.moments.proofs.Coming.{IsComing}
 use Rattle.moments.proofs.timeline.Timeline.go_to_count.Given as goal
 

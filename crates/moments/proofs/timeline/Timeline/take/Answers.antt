@@ -1,5 +1,5 @@
 use Rattle.std.proofs.Common.{◌<◌, length, sym, subst, arith}
-use Rattle.moments.specs.Line.{LineView}
+use Rattle.plan_lines.specs.Line.{LineView}
 use Rattle.moments.specs.machinery.Machines.{standing_of}
 use Rattle.moments.proofs.Taking.{next_here, quiet_here, room_here, room_in_view, quiet_went, gone_on}
 use Rattle.moments.proofs.timeline.Timeline.take.Goals as goal

@@ -1,9 +1,0 @@
-use Rattle.moments.proofs.Written.{writes_are_used}
-use Rattle.moments.proofs.Seen.{reads_are_used}
-use Rattle.moments.proofs.laws.seen_accesses.Goals as goal
-
-pub returns-clause-writes : goal.returns-clause-writes
-returns-clause-writes c = writes_are_used
-
-pub returns-clause-reads : goal.returns-clause-reads
-returns-clause-reads c = reads_are_used

@@ -1,0 +1,10 @@
+pub mod Moves
+pub mod Standings
+pub mod Cutting
+pub mod Histories
+pub mod Telling
+pub mod Rises
+pub mod Interrupts
+pub mod Regular
+pub mod Written
+pub mod Seen

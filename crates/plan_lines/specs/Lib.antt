@@ -1,0 +1,4 @@
+pub mod Line
+pub mod Uses
+pub mod Laws
+pub mod machinery
