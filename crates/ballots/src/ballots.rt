@@ -58,6 +58,7 @@ pub fn next_ballot(candidate: u32, top: Term) -> Option<Term>
     if candidate == 0 && top < FIRST_DEALT - 1 {
         return Some(top + 1);
     }
+    // The first dealt ballot above the term, and how many of others stand before the candidate's.
     let first = (top / BALLOT + 1).max(CANDIDATES);
     let before = (candidate + CANDIDATES - first % CANDIDATES) % CANDIDATES;
     (first + before).checked_mul(BALLOT)
