@@ -89,7 +89,7 @@ lead 2 .b 0 1
 ask 'paths of another site are removed' .b 100
 for k in 0 1 2; do is "keeper $k runs" yes "$(runs "${keeper[$k]}" && echo yes)"; done
 sleep 1
-is 'the path is told once' 'fault file acks.0.a' "$(cat faults.0)"
+is 'the path is told once' 'fault file acks.0.a: No such file or directory (os error 2)' "$(cat faults.0)"
 stop "$primary"
 
 # The path to a keeper is removed, which is gone.
@@ -99,7 +99,7 @@ ask 'a primary with all paths' '' 50
 stop "${keeper[2]}"
 rm frames.2
 ask 'a path to one keeper is removed' '' 100
-is 'the path is told' 'fault file frames.2' "$(cat faults.primary)"
+is 'the path is told' 'fault file frames.2: No such file or directory (os error 2)' "$(cat faults.primary)"
 mkfifo frames.2
 keep 2
 sleep 1.5
