@@ -303,7 +303,8 @@ impl<R: Paths + AllocGlobal + Copy> Disk for HostDisk<R> {
     }
 
     fn own_identity(&mut self) -> io::Result<Identity> {
-        Ok(identity_of(&self.places.log()?.metadata()?))
+        let found = self.places.log()?.metadata();
+        Ok(identity_of(&self.places.reason.note(found)?))
     }
 
     fn named_identity(&mut self) -> io::Result<Identity> {
@@ -311,7 +312,8 @@ impl<R: Paths + AllocGlobal + Copy> Disk for HostDisk<R> {
     }
 
     fn fences_identity(&mut self) -> io::Result<Identity> {
-        Ok(identity_of(&self.rt.look_at(self.places.fences.as_str())?))
+        let found = self.rt.look_at(self.places.fences.as_str());
+        Ok(identity_of(&self.places.reason.note(found)?))
     }
 
     fn is_marked(&mut self) -> io::Result<bool> {
