@@ -13,6 +13,8 @@ work=$(mktemp -d)
 passed=0
 failed=0
 asked=0
+# What the system says of a file that is not there.
+gone=': No such file or directory (os error 2)'
 
 # Ends what this script started, and nothing else.
 finish() {
@@ -220,7 +222,7 @@ ask 'its keeper goes on, and one is gone'
 # A keeper whose disk is full ends, and the others go on.
 keep 2 bash -c 'trap "" XFSZ; ulimit -f 1; exec "$@"' -
 for _ in 1 2 3 4; do ask 'a disk gets full'; done
-ends 'a keeper whose disk is full' "${keeper[2]}" 'fault file log.2' faults.2
+ends 'a keeper whose disk is full' "${keeper[2]}" 'fault file log.2: File too large (os error 27)' faults.2
 : > faults.2
 ask 'two keepers are left'
 keep 2
@@ -315,7 +317,7 @@ ln own second
 for word in "hand $image 0 own 9" "keeper $image 0 own from frames.own to acks.alias" "keeper $image 0 second from frames.own to acks.alias"; do
     says 'a log with two names' 1 'fault log link' $word
 done
-says 'a second name, beside which no fences lie' 1 'fault file second.fences' hand "$image" 0 second 9
+says 'a second name, beside which no fences lie' 1 "fault file second.fences$gone" hand "$image" 0 second 9
 rm second
 
 # A log that is renamed under its keeper, and one that is gone.
@@ -357,12 +359,12 @@ if command -v cc > /dev/null; then
     make_log 0 unsynced
     make_log 0 unfenced
     # the first call is for the folder, the second for the log
-    LD_PRELOAD=$work/refuse.so CALLS_OF=sync CALLS_AS=once CALLS_AT=2 says 'a log that is not brought to disk' 1 'fault file unsynced' \
+    LD_PRELOAD=$work/refuse.so CALLS_OF=sync CALLS_AS=once CALLS_AT=2 says 'a log that is not brought to disk' 1 'fault file unsynced: Input/output error (os error 5)' \
         keeper "$image" 0 unsynced from frames.own to acks.unsynced
     is 'nothing is acknowledged' 1 "$(wc -l < acks.unsynced)"
     says 'its keeper begins no more' 1 'fault log failed' keeper "$image" 0 unsynced from frames.own to acks.unsynced
     says 'and it is not handed over' 1 'fault log failed' hand "$image" 0 unsynced 1
-    LD_PRELOAD=$work/refuse.so CALLS_OF=sync CALLS_AS=once CALLS_AT=3 says 'a fence that is not brought to disk' 1 'fault file unfenced.fences' hand "$image" 0 unfenced 1
+    LD_PRELOAD=$work/refuse.so CALLS_OF=sync CALLS_AS=once CALLS_AT=3 says 'a fence that is not brought to disk' 1 'fault file unfenced.fences: Input/output error (os error 5)' hand "$image" 0 unfenced 1
     says 'its log is not handed over' 1 'fault log failed' hand "$image" 0 unfenced 2
 else
     echo 'left out a disk that does not take what was added, since no C compiler is installed'
@@ -387,12 +389,12 @@ whole
 make_log 1 theirs frames.own
 cp mine copy
 cp mine.fences copy.fences
-refused 'a name that is mistyped' 'fault file lgo' 0 lgo
+refused 'a name that is mistyped' "fault file lgo$gone" 0 lgo
 refused 'another number' 'fault log keeper' 1
 refused "another keeper's log" 'fault log keeper' 0 theirs
 refused 'another guest' 'fault log line' 0 mine "$other"
 : > lgo
-refused 'a log that nobody made' 'fault file lgo.fences' 0 lgo
+refused 'a log that nobody made' "fault file lgo.fences$gone" 0 lgo
 : > lgo.fences
 refused 'fences that nobody made' 'fault log line' 0 lgo
 head -c 40 mine.fences > lgo.fences
@@ -417,7 +419,7 @@ refused "a log that was renamed over another's with its fences" 'fault log keepe
 whole
 cp mine.fences copy.fences
 rm mine.fences
-refused 'fences that were removed' 'fault file mine.fences'
+refused 'fences that were removed' "fault file mine.fences$gone"
 cp copy.fences mine.fences
 refused 'fences that were restored' 'fault log fences'
 mv copy.fences mine.fences
@@ -449,7 +451,7 @@ ln -s nowhere new
 says 'a link that is there' 1 'fault log there' make "$image" 0 3 2 "$pair" new
 is 'it leads nowhere' no "$([ -e nowhere ] && echo yes || echo no)"
 rm new
-says 'a folder that is not there' 1 'fault file none/new' make "$image" 0 3 2 "$pair" none/new
+says 'a folder that is not there' 1 "fault file none/new$gone" make "$image" 0 3 2 "$pair" none/new
 make_log 0 new
 unmade 'a log that was made'
 

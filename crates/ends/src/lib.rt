@@ -15,7 +15,7 @@ mod unread;
 pub use attempts::Attempts;
 pub use connection::{Keeps, Pen};
 pub use events::{Door, Event, Gone, Reads, Receiver, Sender, Taker, Waiting, bring, row};
-pub use faults::{Fault, Frames, FramesFault, NamedFile, file_fault, name_at, refuse, tell};
+pub use faults::{Fault, Frames, FramesFault, NamedFile, Why, file_fault, name_at, refuse, tell};
 pub use files::{RemovedFile, is_fifo, read_file, remove_file, sync_folder};
 pub use host::{Host, Paths};
 pub use listening::{Listening, Relief, listen_all};

@@ -5,7 +5,7 @@ ghost use Rattle.std.specs.Prelude.{◌≡◌, ◌≤◌, true, false, IfOk};
 use crate::desk::Desk;
 use crate::events::{Event, KeeperDeed};
 use crate::faults::{log_fault, open_fault};
-use crate::files::{HostDisk, HostFiles, LogFiles, Places};
+use crate::files::{HostDisk, HostFiles, LogFiles, Places, Reason};
 use crate::listening::listen_all;
 use crate::names::name_in_keeper;
 use crate::posting::{Post, begin_posts, posts};
@@ -111,8 +111,13 @@ impl Kept {
 }
 
 /// The files of a keeper that runs.
-fn open<H: Host>(rt: &H, guest: Guest, words: &KeeperWords<'_>) -> Result<HostFiles<H>, Fault> {
-    let disk = HostDisk::new(rt, Places::of(rt, words.log)?);
+fn open<H: Host>(
+    rt: &H,
+    guest: Guest,
+    words: &KeeperWords<'_>,
+    reason: &Reason,
+) -> Result<HostFiles<H>, Fault> {
+    let disk = HostDisk::new(rt, Places::of(rt, words.log, reason)?);
     match open_for_keeper(rt.alloc(), disk, guest, words.keeper) {
         Ok(files) => Ok(files),
         Err(fault) => Err(open_fault(fault)),
@@ -135,11 +140,11 @@ fn begin<H: Host>(
 }
 
 /// Keeps a log until all inputs are at their end, and gives the status that the program ends with.
-fn keep_all<H: Host>(rt: &H, words: &KeeperWords<'_>) -> Result<u8, Fault>
+fn keep_all<H: Host>(rt: &H, words: &KeeperWords<'_>, reason: &Reason) -> Result<u8, Fault>
     ensures { IfOk result (λ status. status ≤ 1) }
 {
     let guest = read_image_file(rt, words.image)?.guest();
-    let mut files = open(rt, guest, words)?;
+    let mut files = open(rt, guest, words, reason)?;
     let station = begin(rt, guest, words.keeper, &mut files)?;
     tell_note(rt, &Note::Keeps(words.keeper));
     let (to, events) = row(rt.alloc(), ROOM)?;
@@ -157,11 +162,19 @@ fn keep_all<H: Host>(rt: &H, words: &KeeperWords<'_>) -> Result<u8, Fault>
     Ok(kept.end(rt, desk.outputs(), threads))
 }
 
+/// The same, of which a fault says why the disk failed.
+fn keep_or_say<H: Host>(rt: &H, words: &KeeperWords<'_>) -> Result<u8, Fault>
+    ensures { IfOk result (λ status. status ≤ 1) }
+{
+    let reason = Reason::new(rt.alloc())?;
+    reason.told(keep_all(rt, words, &reason))
+}
+
 /// Keeps a log until all inputs are at their end. The status that the program ends with; a fault is told on standard error.
 pub fn keep<H: Host>(rt: &H, words: &KeeperWords<'_>) -> u8
     ensures { result ≤ 1 }
 {
-    match keep_all(rt, words) {
+    match keep_or_say(rt, words) {
         Ok(status) => status,
         Err(fault) => {
             tell(rt, &fault, name_in_keeper(words, &fault));
