@@ -12,6 +12,7 @@ mod listening;
 mod making;
 mod names;
 mod posting;
+mod status;
 mod turns;
 
 pub use events::{Event, KeeperDeed};

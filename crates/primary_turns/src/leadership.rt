@@ -2,6 +2,8 @@
 
 ghost use Rattle.std.specs.Prelude.{◌≡◌, ◌<◌, ◌≤◌, ◌⊎◌, length, replicate, slice_get, take, None, Some, IfOk, OnOk};
 ghost use Rattle.ft_types.specs.declared.names.TheConstants.{HART_ROW};
+ghost use Rattle.ft_types.specs.Counts.{count_at};
+ghost use Rattle.hart_lease.specs.Runs.{counts_of};
 ghost use Rattle.output_gate.specs.Gates.{kept_count};
 ghost use Rattle.primary_turns.specs.Deeds.{Adds};
 ghost use Rattle.primary_turns.specs.Turns.{ComesAgain, Cuts, CutsNone, Leads, Rounds, TakesAll, seen};
@@ -10,6 +12,7 @@ use crate::deeds::{Deed, FrameBytes};
 use crate::pace::{FIRST_ROUND, Next, Pace, SHORT_ROUNDS};
 use crate::read::Sent;
 use crate::said::Said;
+use crate::standing::Standing;
 use crate::taking::{Notes, take_one};
 use crate::told::Told;
 use attendance::Attendance;
@@ -102,6 +105,22 @@ impl Leadership {
     /// What comes next.
     pub fn next(&self) -> Next {
         self.notes.pace.next
+    }
+
+    /// How the term stands.
+    pub fn standing(&self) -> Standing
+        ensures term { result.term ≡ self.now.leader.primary.opening.term }
+        ensures counts { (hart : ℕ) → count_at result.counts hart ≡ counts_of self.now.leader.primary.book.machine hart }
+        ensures released { result.released ≡ length self.now.leader.released }
+        ensures kept { result.kept ≡ kept_count self.now.leader.gate.gate.lines }
+    {
+        Standing {
+            term: self.leader.term(),
+            counts: self.leader.counts(),
+            released: self.leader.released().len(),
+            kept: self.leader.kept(),
+            attendance: self.notes.attendance,
+        }
     }
 
     /// Takes what is said, up to the first request that is to come again: its hart has no room for it. How much was taken.
