@@ -152,11 +152,11 @@ cat front zeros > mine
 "$live" make "$image" 1 3 2 "$(echo "$pair" | tr 0-9a-f 1-9a-f0)" foreign
 kept 'a log of another pair' 'fault from 0 pair' foreign
 cp whole bare
-kept 'a log without fences' 'fault file bare.fences' bare
+kept 'a log without fences' 'fault file bare.fences: No such file or directory (os error 2)' bare
 "$live" make "$other" 1 3 2 "$pair" theirs
 kept 'a log of another guest' 'fault from 0 line' theirs
 cp whole.fences gone.fences
-kept 'no log' 'fault file gone' gone
+kept 'no log' 'fault file gone: No such file or directory (os error 2)' gone
 cat "$top/samples/four_harts.script" > script
 echo '0 1 word 00000077' >> script
 "$workbench" run "$image" script 20000 unlike > machine
