@@ -120,7 +120,12 @@ fn add_term(alloc: Global, families: &mut Vec<Family>, standing: &Standing) -> R
         Metric::Released,
         Some(standing.released as u64),
     )?;
-    add_value(alloc, families, Metric::Waiting, Some(standing.waiting as u64))
+    add_value(
+        alloc,
+        families,
+        Metric::Waiting,
+        Some(standing.waiting as u64),
+    )
 }
 
 /// Adds what is measured of keepers.
