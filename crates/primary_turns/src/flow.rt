@@ -1,21 +1,19 @@
 //! How far a primary is ahead of its keepers.
 
-ghost use Rattle.std.specs.Prelude.{◌≡◌, ◌+◌, ◌<◌, ◌≤◌, ◌↔◌, ℕ, None, Some, min, IsSome, IsTrue, OnOk};
+ghost use Rattle.std.specs.Prelude.{◌≡◌, ◌+◌, ◌<◌, ◌≤◌, ◌↔◌, ℕ, false, min, true, IsTrue, OnOk};
 ghost use Rattle.ft_types.specs.Sets.{IsMember};
 ghost use Rattle.primary_turns.specs.machinery.Flows.{how_many, with_if};
 
-use crate::read::{Sent, has_come_to};
+use crate::read::{Sent, reaches};
 use ft_types::{Counts, Keeper, KeeperSet, Memory, Quorum};
-use std::option::Option;
 use std::result::Result;
 use wire::Acknowledgement;
 
-/// How many bytes of frames a primary cuts in its term, beyond those that enough keepers are known to have, before its rounds rest: as many as it has for them at
-/// the most but for those of its last rounds.
+/// How many bytes of frames that were cut in the term too few keepers may be known to have before rounds rest; those of one more call come on top.
 pub const FLOW_LIMIT: u64 = 4_194_304;
 
-/// How many bytes were sent in the term that too few keepers are known to have. What one has of them is known at a mark, which goes to the end of all whenever
-/// enough keepers came to it: so it takes no more memory, however many they are, and at the most twice as many are counted as are lacking.
+/// How many bytes were sent in the term that too few keepers are known to have. What keepers have is known at a mark, which moves on to the end of what was
+/// sent once enough of them came to it: so a few words do, however much is sent. Counted is what was lacking as it was set, and all that was sent since.
 #[derive(Clone, Copy)]
 pub(crate) struct Flow {
     quorum: Quorum,
@@ -23,8 +21,10 @@ pub(crate) struct Flow {
     ahead: u64,
     /// How many of them were sent behind the mark.
     behind: u64,
-    /// To which counts what was sent before the mark goes; none where nothing is ahead.
-    mark: Option<Counts>,
+    /// Whether there is a mark: something is ahead.
+    is_marked: bool,
+    /// To which counts what was sent before the mark goes, where there is one.
+    mark: Counts,
     /// The keepers that came to the mark.
     at_mark: KeeperSet,
     /// The keepers that have all.
@@ -51,7 +51,8 @@ impl Flow {
             quorum,
             ahead: 0,
             behind: 0,
-            mark: None,
+            is_marked: false,
+            mark: Counts::zero(0),
             at_mark: KeeperSet::new(),
             at_end: KeeperSet::new(),
         }
@@ -65,10 +66,12 @@ impl Flow {
     }
 
     /// Notes that so many bytes are sent, which go to these counts. More of them than there are numbers are had by nobody: that is want of memory.
-    pub(crate) fn note(&mut self, bytes: usize, counts: Counts) -> Result<(), Memory>
+    pub(crate) fn note(&mut self, bytes: usize, counts: &Counts) -> Result<(), Memory>
         ensures ahead { OnOk result (self.new.ahead ≡ self.old.ahead + bytes) }
-        ensures behind { OnOk result (IsSome self.old.mark → (self.new.behind ≡ self.old.behind + bytes) × (self.new.mark ≡ self.old.mark)) }
-        ensures begins { OnOk result (self.old.mark ≡ None → (self.new.behind ≡ self.old.behind) × (self.new.mark ≡ Some counts)) }
+        ensures behind { OnOk result (self.old.is_marked ≡ true →
+            (self.new.behind ≡ self.old.behind + bytes) × (self.new.is_marked ≡ true) × (self.new.mark ≡ self.old.mark) × (self.new.at_mark ≡ self.old.at_mark)) }
+        ensures begins { OnOk result (self.old.is_marked ≡ false →
+            (self.new.behind ≡ self.old.behind) × (self.new.is_marked ≡ true) × (self.new.mark ≡ counts.now) × ((keeper : ℕ) → ¬ (IsMember self.new.at_mark keeper))) }
         ensures nobody { OnOk result ((keeper : ℕ) → ¬ (IsMember self.new.at_end keeper)) }
     {
         let (Some(ahead), Some(behind)) = (
@@ -79,24 +82,25 @@ impl Flow {
         };
         self.ahead = ahead;
         self.at_end = KeeperSet::new();
-        if self.mark.is_some() {
+        if self.is_marked {
             self.behind = behind;
         } else {
-            self.mark = Some(counts);
+            self.is_marked = true;
+            self.mark.copy_from(counts);
             self.at_mark = KeeperSet::new();
         }
         Ok(())
     }
 
     /// Notes whether a keeper has come to the mark, and to the end of what was sent. Where enough have come to the mark it goes to that end.
-    fn come(&mut self, keeper: Keeper, to_mark: bool, to_end: bool, sent: &Sent)
+    fn come(&mut self, keeper: Keeper, to_mark: bool, to_end: bool, last: &Counts)
         ensures end { self.new.at_end ≡ with_if self.old.at_end keeper to_end }
-        ensures all { self.old.quorum.need ≤ how_many self.new.at_end → (self.new.ahead ≡ 0) × (self.new.behind ≡ 0) × (self.new.mark ≡ None) }
+        ensures all { self.old.quorum.need ≤ how_many self.new.at_end → (self.new.ahead ≡ 0) × (self.new.behind ≡ 0) × (self.new.is_marked ≡ false) }
         ensures some { how_many self.new.at_end < self.old.quorum.need → self.old.quorum.need ≤ how_many (with_if self.old.at_mark keeper to_mark) →
             self.new ≡ record self.old {
               ahead = min self.old.ahead self.old.behind;
               behind = 0;
-              mark = sent.now.last;
+              mark = last.now;
               at_mark = self.new.at_end;
               at_end = self.new.at_end;
             } }
@@ -110,11 +114,11 @@ impl Flow {
         if self.at_end.len() >= need {
             self.ahead = 0;
             self.behind = 0;
-            self.mark = None;
+            self.is_marked = false;
         } else if self.at_mark.len() >= need {
             self.ahead = self.ahead.min(self.behind);
             self.behind = 0;
-            self.mark = sent.last();
+            self.mark.copy_from(last);
             self.at_mark = self.at_end;
         }
     }
@@ -123,12 +127,15 @@ impl Flow {
     pub(crate) fn hear(&mut self, acknowledgement: &Acknowledgement, sent: &Sent)
         ensures { self.new.ahead ≤ self.old.ahead }
     {
-        let keeper = acknowledgement.keeper;
+        let Acknowledgement { keeper, counts, .. } = acknowledgement;
+        let Some(last) = &sent.last else {
+            return;
+        };
         if self.ahead == 0 || keeper.number() >= self.quorum.keepers() {
             return;
         }
-        let to_end = sent.is_reached_by(acknowledgement);
-        let to_mark = to_end || has_come_to(acknowledgement, &self.mark);
-        self.come(keeper, to_mark, to_end, sent);
+        let to_end = reaches(counts, last);
+        let to_mark = to_end || reaches(counts, &self.mark);
+        self.come(*keeper, to_mark, to_end, last);
     }
 }

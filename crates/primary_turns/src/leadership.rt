@@ -23,8 +23,9 @@ use std::alloc::Global;
 use std::marker::Model;
 use std::result::Result;
 
-/// A primary that leads a term. Contracts see its leader, for each hart the number of its answer that was told last, and how many bytes of the
-/// frames that were sent too few keepers are known to have. Whoever has it does the deeds that each call adds, in their order. Want of memory ends it: what was to be done then is not done, and nothing is known of it.
+/// A primary that leads a term. Contracts see its leader, for each hart the number of its answer that was told last, and how many bytes of frames were sent
+/// that too few keepers are known to have. Whoever has it does the deeds that each call adds, in their order. Want of memory ends it: what was to be done
+/// then is not done, and nothing is known of it.
 #[derive(Drop)]
 pub struct Leadership {
     leader: Leader,
@@ -71,7 +72,7 @@ fn cut(
         return Ok(());
     }
     let counts = leader.counts();
-    flow.note(bytes.len(), counts)?;
+    flow.note(bytes.len(), &counts)?;
     sent.note(counts);
     Ok(deeds.push(Deed::Send(bytes))?)
 }
@@ -92,6 +93,24 @@ fn cut_due(
     } else {
         Ok(())
     }
+}
+
+/// Leads rounds, and sends what is new, unless more of the longest are to come before.
+fn go_on(
+    alloc: Global,
+    leader: Leader,
+    notes: &mut Notes,
+    deeds: &mut Vec<Deed>,
+) -> Result<Leader, Memory>
+    ensures leads { IfOk result (λ l. Adds deeds.old.items deeds.new.items (Leads leader l)) }
+    ensures ahead { OnOk result (Adds deeds.old.items deeds.new.items (λ added. notes.new.flow.ahead ≡ notes.old.flow.ahead + bytes_sent added)) }
+    ensures told { notes.new.told ≡ notes.old.told }
+{
+    let Pace { steps, spacing, .. } = notes.pace;
+    let mut leader = rounds(alloc, leader, steps, spacing)?;
+    cut_due(alloc, &mut leader, notes, deeds)?;
+    notes.pace.note_led();
+    Ok(leader)
 }
 
 impl Leadership {
@@ -159,20 +178,6 @@ impl Leadership {
         Ok(all.len())
     }
 
-    /// Leads rounds, and sends what is new, unless more of the longest are to come before.
-    fn go_on(self, alloc: Global, deeds: &mut Vec<Deed>) -> Result<Leadership, Memory>
-        ensures leads { IfOk result (λ l. Adds deeds.old.items deeds.new.items (Leads self.leader l.leader)) }
-        ensures ahead { IfOk result (λ l. Adds deeds.old.items deeds.new.items (λ added. l.ahead ≡ self.ahead + bytes_sent added)) }
-        ensures told { IfOk result (λ l. l.told ≡ self.told) }
-    {
-        let Leadership { leader, mut notes } = self;
-        let Pace { steps, spacing, .. } = notes.pace;
-        let mut leader = rounds(alloc, leader, steps, spacing)?;
-        cut_due(alloc, &mut leader, &mut notes, deeds)?;
-        notes.pace.note_led();
-        Ok(Leadership { leader, notes })
-    }
-
     /// Leads rounds, and sends what is new, unless more of the longest are to come before. Where it is too far ahead of its keepers it rests: none begins.
     pub fn lead(self, alloc: Global, deeds: &mut Vec<Deed>) -> Result<Leadership, Memory>
         ensures leads { IfOk result (λ l. self.ahead ≤ FLOW_LIMIT → Adds deeds.old.items deeds.new.items (Leads self.leader l.leader)) }
@@ -180,10 +185,12 @@ impl Leadership {
         ensures ahead { IfOk result (λ l. Adds deeds.old.items deeds.new.items (λ added. l.ahead ≡ self.ahead + bytes_sent added)) }
         ensures told { IfOk result (λ l. l.told ≡ self.told) }
     {
-        if self.notes.flow.rests() {
-            return Ok(self);
+        let Leadership { leader, mut notes } = self;
+        if notes.flow.rests() {
+            return Ok(Leadership { leader, notes });
         }
-        self.go_on(alloc, deeds)
+        let leader = go_on(alloc, leader, &mut notes, deeds)?;
+        Ok(Leadership { leader, notes })
     }
 
     /// Looks, unless that is put off, whether more rounds would change anything.

@@ -11,13 +11,13 @@ use wire::Acknowledgement;
 #[derive(Clone, Copy)]
 pub(crate) struct Sent {
     /// Those that were sent last; none before the first.
-    last: Option<Counts>,
+    pub(crate) last: Option<Counts>,
     /// Those that were sent before them.
     before: Option<Counts>,
 }
 
 /// Whether each hart of the first is at least where it is in the second.
-fn reaches(counts: &Counts, others: &Counts) -> bool {
+pub(crate) fn reaches(counts: &Counts, others: &Counts) -> bool {
     for number in 0..others.harts() {
         let hart = Hart::new(number);
         if number >= counts.harts() || counts.get(hart) < others.get(hart) {
@@ -28,7 +28,7 @@ fn reaches(counts: &Counts, others: &Counts) -> bool {
 }
 
 /// Whether what was acknowledged reaches what was sent, if anything was.
-pub(crate) fn has_come_to(acknowledgement: &Acknowledgement, sent: &Option<Counts>) -> bool {
+fn has_come_to(acknowledgement: &Acknowledgement, sent: &Option<Counts>) -> bool {
     match sent {
         Some(sent) => reaches(&acknowledgement.counts, sent),
         None => false,
@@ -50,20 +50,13 @@ impl Sent {
     }
 
     /// Those that were sent last.
-    pub(crate) fn last(&self) -> Option<Counts>
-        ensures { result ≡ self.now.last }
-    {
+    pub(crate) fn last(&self) -> Option<Counts> {
         self.last
-    }
-
-    /// Whether what was acknowledged reaches all that was sent, if anything was.
-    pub(crate) fn is_reached_by(&self, acknowledgement: &Acknowledgement) -> bool {
-        has_come_to(acknowledgement, &self.last)
     }
 
     /// How much a keeper has read that acknowledges this in the term, as far as that is known.
     pub(crate) fn read_by(&self, acknowledgement: &Acknowledgement) -> Option<Extent> {
-        if self.is_reached_by(acknowledgement) {
+        if has_come_to(acknowledgement, &self.last) {
             Some(Extent::All)
         } else if has_come_to(acknowledgement, &self.before) {
             Some(Extent::AllButLast)

@@ -203,7 +203,8 @@ pub(crate) fn take_one(
     ensures takes { IfOk result (λ taken. IsTrue taken → Adds deeds.old.items deeds.new.items
         (Takes (seen leader.old notes.old.told notes.old.flow.ahead) what.now (seen leader.new notes.new.told notes.new.flow.ahead))) }
     ensures busy { IfOk result (λ taken. taken ≡ false → ComesAgain leader.old (Some what.now)) }
-    ensures left { IfOk result (λ taken. taken ≡ false → (leader.new ≡ leader.old) × (notes.new.told ≡ notes.old.told) × (notes.new.flow.ahead ≡ notes.old.flow.ahead) × (deeds.new.items ≡ deeds.old.items)) }
+    ensures left { IfOk result (λ taken. taken ≡ false → (leader.new ≡ leader.old) × (notes.new.told ≡ notes.old.told)
+        × (notes.new.flow.ahead ≡ notes.old.flow.ahead) × (deeds.new.items ≡ deeds.old.items)) }
 {
     match what {
         Said::Request(request) => take_request(alloc, leader, notes, deeds, request),
