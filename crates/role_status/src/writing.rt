@@ -47,7 +47,8 @@ fn push_type(text: &mut Vec<u8>, metric: Metric) -> Result<(), AllocError>
 {
     text.extend_from_slice(b"# TYPE wazhilom_")?;
     text.extend_from_slice(metric.name().as_bytes())?;
-    text.extend_from_slice(b" gauge\n")
+    text.extend_from_slice(b" gauge\n")?;
+    Ok(())
 }
 
 /// Adds what is told of a metric before its values.
