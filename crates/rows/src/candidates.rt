@@ -35,7 +35,7 @@ whose 4294967295|131071 7 4095
 ";
 
 fn term(text: &str) -> Term {
-    number(text) as Term
+    number(text).min(u64::from(u32::MAX)) as Term
 }
 
 /// Whether this term is answered, or `none`.
