@@ -99,6 +99,7 @@ rm log log.fences
 make 0 log own
 "$live" hand "$image" 0 log 9 > handed
 says 'fault fence 9' hand "$image" 0 log 9
+says 'fault fence far 9' hand "$image" 0 log 1048586
 cp log.fences copy
 mv copy log.fences
 kept 'fault log fences'
