@@ -235,7 +235,7 @@ stop "${keeper[2]}"
 ask 'its keeper goes on, and one is gone'
 
 # A keeper whose disk is full ends, and the others go on.
-keep 2 bash -c 'trap "" XFSZ; ulimit -f 1; exec "$@"' -
+keep 2 bash -c 'trap "" XFSZ; ulimit -f 4; exec "$@"' -
 for _ in 1 2 3 4; do ask 'a disk gets full'; done
 ends 'a keeper whose disk is full' "${keeper[2]}" 'fault file log.2: File too large (os error 27)' faults.2
 : > faults.2
@@ -289,13 +289,15 @@ notes 'keepers are gone' faults.client "note unanswered $((asked - 1))"
 tells 'keepers are gone' status.client 'client 1' 'requests [1-9][0-9]*' "answers $((asked - 1))" 'unanswered_seconds [12]'
 is 'it is noted in some two seconds' yes "$([ $((${EPOCHREALTIME/./} - since)) -lt 2500000 ] && echo yes)"
 tells 'a keeper is left' status.2 'keeper{keeper="2"} 1' 'term 2' 'fence 2' "log_bytes $(wc -c < log.2)" 'acknowledged_seconds [0-9]*' 'hart_steps{hart="0"} [1-9][0-9]*'
+rm status.0 status.1
 for k in 0 1; do keep "$k"; done
 notes 'keepers are back' faults.primary 'note keeper 0 back' 'note keeper 1 back' 'note enough [23]'
 notes 'keepers are back' faults.client "note answered $((asked - 1))"
 tells 'keepers are back' status.primary 'keepers_heard 3' 'keeper_lag_steps{keeper="1"} [0-9]*' 'keeper_lag_bytes{keeper="1"} [0-9]*'
+tells 'a keeper is back' status.1 'term 2' 'fence 2'
 "$live" status status.primary status.1 > table 2> err
 is 'a table' "0 primary file status.primary term 2 heard 3 of 3 keeper 1 file status.1 term 2 fence 2" \
-    "$? $(grep -v '^acknowledged' table | sed 's/ \(kept\|bytes\) .*//' | tr '\n' ' ' | sed 's/ $//')"
+    "$? $(grep -v '^acknowledged' table | sed 's/ \(waiting\|bytes\) .*//' | tr '\n' ' ' | sed 's/ $//')"
 is 'a line for each keeper' 3 "$(grep -c '^acknowledged [0-2] file status.primary steps' table)"
 "$live" status status.primary none > table 2> err
 is 'a table of a file that is not there' "1 fault file none$gone" "$? $(cat err)"
