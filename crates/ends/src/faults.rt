@@ -1,6 +1,6 @@
 //! What can go wrong with a process, and the line that says so.
 
-ghost use Rattle.std.specs.Prelude.{◌≡◌, ◌≢◌, ⊥};
+ghost use Rattle.std.specs.Prelude.{◌≡◌, ◌≢◌};
 ghost use Rattle.ends.specs.declared.faults.NamedFile.{NamedFile as file_of_specs};
 ghost use Rattle.ends.specs.declared.faults.Fault.TheVariants.{File as OfFile};
 ghost use Rattle.ends.specs.declared.faults.Why.TheVariants.{Unknown};
