@@ -107,7 +107,7 @@ make_log() {
 keep() {
     local k=$1
     shift
-    "$@" "$live" keeper "$image" "$k" "log.$k" from "frames.$k" "frames.$k.b" to "acks.$k" "acks.$k.b" status "status.$k" 2>> "faults.$k" &
+    "$@" "$live" keeper "$image" "$k" "log.$k" from "frames.$k" "frames.$k.b" to "acks.$k" "acks.$k.b" 2>> "faults.$k" &
     keeper[$k]=$!
 }
 
@@ -127,7 +127,7 @@ lead() {
     local term=$1 s=$2
     shift 2
     "$live" primary "$image" "$term" 3 2 in "in$s" out "out$s" nobody to "frames.0$s" "frames.1$s" "frames.2$s" from "acks.0$s" "acks.1$s" "acks.2$s" \
-        with "$@" status "status.primary$s" 2>> faults.primary &
+        with "$@" 2>> faults.primary &
     primary=$!
 }
 
@@ -266,44 +266,20 @@ notes() {
         if grep -qx "$line" "$file"; then pass; else fail "$what: $line" < "$file"; fi
     done
 }
-# tells WHAT FILE LINE..: whether the status file has each line soon.
-tells() {
-    local what=$1 file=$2 line
-    shift 2
-    for line in "$@"; do
-        has "$file" "wazhilom_$line"
-        if grep -qx "wazhilom_$line" "$file"; then pass; else fail "$what: $line" < <(grep -v '^#' "$file"); fi
-    done
-}
 notes 'a process begins' faults.primary 'note leads 1' 'note leads 2'
 notes 'a process begins' faults.1 'note keeps 1'
 for k in 0 1; do stop "${keeper[$k]}"; done
 since=${EPOCHREALTIME/./}
 echo 03070001 >> words
 asked=$((asked + 1))
-timeout 20 "$live" client words 8 300 to in from out status status.client > answers 2> faults.client &
+timeout 20 "$live" client words 8 300 to in from out > answers 2> faults.client &
 client=$!
 notes 'keepers are gone' faults.primary 'note keeper 0 lost' 'note keeper 1 lost' 'note few 1'
-tells 'keepers are gone' status.primary 'primary 1' 'term 2' 'keepers_needed 2' 'keepers_heard 1' 'waiting_outputs [1-9][0-9]*' 'keeper_heard_seconds{keeper="[01]"} [12]' 'keeper_heard_seconds{keeper="2"} 0'
 notes 'keepers are gone' faults.client "note unanswered $((asked - 1))"
-tells 'keepers are gone' status.client 'client 1' 'requests [1-9][0-9]*' "answers $((asked - 1))" 'unanswered_seconds [12]'
 is 'it is noted in some two seconds' yes "$([ $((${EPOCHREALTIME/./} - since)) -lt 2500000 ] && echo yes)"
-tells 'a keeper is left' status.2 'keeper{keeper="2"} 1' 'term 2' 'fence 2' "log_bytes $(wc -c < log.2)" 'acknowledged_seconds [0-9]*' 'hart_steps{hart="0"} [1-9][0-9]*'
-rm status.0 status.1
 for k in 0 1; do keep "$k"; done
 notes 'keepers are back' faults.primary 'note keeper 0 back' 'note keeper 1 back' 'note enough [23]'
 notes 'keepers are back' faults.client "note answered $((asked - 1))"
-tells 'keepers are back' status.primary 'keepers_heard 3' 'keeper_lag_steps{keeper="1"} [0-9]*' 'keeper_lag_bytes{keeper="1"} [0-9]*'
-tells 'a keeper is back' status.1 'term 2' 'fence 2'
-"$live" status status.primary status.1 > table 2> err
-is 'a table' "0 primary file status.primary term 2 heard 3 of 3 keeper 1 file status.1 term 2 fence 2" \
-    "$? $(grep -v '^acknowledged' table | sed 's/ \(waiting\|bytes\) .*//' | tr '\n' ' ' | sed 's/ $//')"
-is 'a line for each keeper' 3 "$(grep -c '^acknowledged [0-2] file status.primary steps' table)"
-"$live" status status.primary none > table 2> err
-is 'a table of a file that is not there' "1 fault file none$gone" "$? $(cat err)"
-mkfifo unheard
-timeout 1.8 "$live" client words 8 300 to nobody from unheard status none/status 2> err
-is 'a status file in no folder is told once' "124 fault file none/status$gone" "$? $(cat err)"
 wait "$client"
 is 'the client ends' "0 number $((asked - 1)) word a0070000" "$? $(tail -n 1 answers)"
 

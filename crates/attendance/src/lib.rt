@@ -7,5 +7,4 @@ mod finding;
 mod patience;
 
 pub use attendance::Attendance;
-pub use entry::KeeperStanding;
 pub use finding::Finding;

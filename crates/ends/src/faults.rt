@@ -31,8 +31,6 @@ pub enum NamedFile {
     Input(usize),
     /// The output with this number, from 0 on.
     Output(usize),
-    /// The file in which the process says how it stands.
-    Status,
 }
 
 /// Why a file failed.

@@ -252,11 +252,6 @@ impl Post {
         self.unread.clear_before();
     }
 
-    /// How many bytes were left that whoever reads is not known to have read.
-    pub fn unread(&self) -> usize {
-        self.unread.bytes()
-    }
-
     /// Has the connection begin anew, where all that was left is written in it and whoever reads lacks some all the same.
     pub fn begin_anew_if_written<R: Wait>(&mut self, rt: &R) -> Result<(), Memory> {
         let is_written = match self.connection.try_lock() {

@@ -3,6 +3,5 @@
 
 mod client;
 mod names;
-mod status;
 
 pub use client::ask;

@@ -12,7 +12,6 @@ mod listening;
 mod making;
 mod names;
 mod posting;
-mod status;
 mod turns;
 
 pub use events::{Event, KeeperDeed};

@@ -10,7 +10,6 @@ mod outset;
 mod pairs;
 mod reading;
 mod renewal;
-mod status;
 mod ticking;
 
 pub use helm::lead;

@@ -7,7 +7,7 @@ mod tasks;
 
 pub use matching::{asked_text, read_task};
 pub use tasks::{
-    Asked, CheckWords, ClientWords, HandWords, KeeperWords, MakeWords, MendWords, PrimaryWords,
-    RenewWords, StatusWords, Task,
+    CheckWords, ClientWords, HandWords, KeeperWords, MakeWords, MendWords, PrimaryWords,
+    RenewWords, Task,
 };
 pub use word_forms::WordsFault;

@@ -1,9 +1,7 @@
 //! A primary that leads a term.
 
-ghost use Rattle.std.specs.Prelude.{◌≡◌, ◌+◌, ◌<◌, ◌≤◌, ◌⊎◌, ℕ, length, replicate, slice_get, take, None, Some, IfOk, OnOk};
+ghost use Rattle.std.specs.Prelude.{◌≡◌, ◌+◌, ◌<◌, ◌≤◌, ◌⊎◌, length, replicate, slice_get, take, None, Some, IfOk, OnOk};
 ghost use Rattle.ft_types.specs.declared.names.TheConstants.{HART_ROW};
-ghost use Rattle.ft_types.specs.Counts.{count_at};
-ghost use Rattle.hart_lease.specs.Runs.{counts_of};
 ghost use Rattle.output_gate.specs.Gates.{waiting_count};
 ghost use Rattle.primary_turns.specs.Deeds.{Adds, bytes_sent};
 ghost use Rattle.primary_turns.specs.Turns.{ComesAgain, Cuts, CutsNone, Leads, Rounds, TakesAll, seen};
@@ -13,7 +11,6 @@ use crate::flow::{FLOW_LIMIT, Flow};
 use crate::pace::{FIRST_ROUND, Next, Pace, SHORT_ROUNDS};
 use crate::read::Sent;
 use crate::said::Said;
-use crate::standing::Standing;
 use crate::taking::{Notes, take_one};
 use crate::told::Told;
 use attendance::Attendance;
@@ -134,22 +131,6 @@ impl Leadership {
             Next::Wait
         } else {
             self.notes.pace.next
-        }
-    }
-
-    /// How the term stands.
-    pub fn standing(&self) -> Standing
-        ensures term { result.term ≡ self.now.leader.primary.opening.term }
-        ensures counts { (hart : ℕ) → count_at result.counts hart ≡ counts_of self.now.leader.primary.book.machine hart }
-        ensures released { result.released ≡ length self.now.leader.released }
-        ensures waiting { result.waiting ≡ waiting_count self.now.leader.gate.gate.lines }
-    {
-        Standing {
-            term: self.leader.term(),
-            counts: self.leader.counts(),
-            released: self.leader.released().len(),
-            waiting: self.leader.waiting(),
-            attendance: self.notes.attendance,
         }
     }
 

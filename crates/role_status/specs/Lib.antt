@@ -1,3 +1,0 @@
-pub mod Metrics
-pub mod Texts
-pub mod Values
