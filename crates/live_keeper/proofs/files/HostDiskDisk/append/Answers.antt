@@ -12,4 +12,4 @@ pub returns-in_err-open_file-clause-failed : goal.returns-in_err-open_file-claus
 returns-in_err-open_file-clause-failed g c = anyhow c.from_residual.result ([], c.args.bytes.now, refl, λ done told. tt)
 
 pub returns-clause-failed : goal.returns-clause-failed
-returns-clause-failed g c = anyhow c.write_all.result ([], c.args.bytes.now, refl, λ done told. tt)
+returns-clause-failed g c = anyhow c.note.result ([], c.args.bytes.now, refl, λ done told. tt)
