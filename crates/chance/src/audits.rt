@@ -43,7 +43,7 @@ static TWO_SHARED_PAGES: Rounds = Rounds {
     ],
 };
 
-pub(crate) fn guest_by(alloc: Global, harts: u8, dice: &mut Dice) -> Result<Image, Memory> {
+fn guest_by(alloc: Global, harts: u8, dice: &mut Dice) -> Result<Image, Memory> {
     image_in(alloc, &TWO_SHARED_PAGES.file(alloc, harts, dice)?)
 }
 
@@ -68,16 +68,12 @@ fn ran(alloc: Global, mut book: Book<Recording>, dice: &mut Dice) -> Book<Record
 }
 
 /// What a guest records from boot.
-pub(crate) fn recorded(
-    alloc: Global,
-    image: &Image,
-    dice: &mut Dice,
-) -> Result<Book<Recording>, Memory> {
+fn recorded(alloc: Global, image: &Image, dice: &mut Dice) -> Result<Book<Recording>, Memory> {
     Ok(ran(alloc, recorder_of(alloc, image, 60)?, dice))
 }
 
 /// What it records from this machine on.
-pub(crate) fn recorded_on(
+fn recorded_on(
     alloc: Global,
     machine: &Machine,
     dice: &mut Dice,
@@ -93,7 +89,7 @@ fn deliver_all(alloc: Global, store: &mut Store, frames: &[Frame]) -> Result<(),
 }
 
 /// Puts a term of the book's log, which goes on from the one before.
-pub(crate) fn put_log(
+fn put_log(
     alloc: Global,
     store: &mut Store,
     book: &Book<Recording>,
@@ -107,7 +103,7 @@ pub(crate) fn put_log(
 }
 
 /// The plan of the store.
-pub(crate) fn planned(alloc: Global, store: &Store) -> Result<Plan, Memory> {
+fn planned(alloc: Global, store: &Store) -> Result<Plan, Memory> {
     let reached = position(alloc, store)?;
     match plan(alloc, store, &reached) {
         Ok(plan) => Ok(plan),

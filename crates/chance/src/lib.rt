@@ -26,8 +26,6 @@ mod granting;
 #[cfg(test)]
 mod keeper;
 #[cfg(test)]
-mod lines;
-#[cfg(test)]
 mod lists;
 #[cfg(test)]
 mod live;
