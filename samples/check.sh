@@ -323,6 +323,7 @@ elif [ -x "$live" ] && command -v bash > /dev/null; then
         fail 'processes whose power fails' < "$work/drills"
     fi
     drills 'paths that are torn, removed, or read by nobody' paths.sh
+    drills 'a primary that nobody acknowledges' ahead.sh
     if command -v socat > /dev/null; then
         drills 'links that break' breaks.sh
     else

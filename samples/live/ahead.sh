@@ -1,7 +1,7 @@
 #!/bin/bash
 # ahead.sh [LIVE]: a primary that nobody acknowledges rests. Its guest has three harts: one says each word that it is given, and two compute for ever. All keepers are
 # stopped: the primary computes on until it is so many bytes of frames ahead, and then uses no processor, and no more memory. Once they are back a word that came
-# meanwhile is answered within a second, and rounds go on. LIVE is the built program, by itself the one that `rt run` leaves. In some thirty seconds; the last line is
+# meanwhile is answered within two seconds, and rounds go on. LIVE is the built program, by itself the one that `rt run` leaves. In some thirty seconds; the last line is
 # 'N passed, N failed'. Needs bash, mkfifo and timeout.
 set -u
 top=$(cd "$(dirname "$0")/../.." && pwd)
@@ -113,7 +113,7 @@ for k in 0 1 2; do keep "$k"; done
 has answers 2 10
 took=$(((${EPOCHREALTIME/./} - since) / 1000))
 is 'it is answered' 'number 1 word 00000008' "$(tail -n 1 answers)"
-below 'within a second' 1000 "$took"
+below 'within two seconds' 2000 "$took"
 wait "$client"
 before=$(wc -c < log.0)
 sleep 1
