@@ -77,11 +77,21 @@ has() {
 # rss PROCESS: how many KB of memory it has.
 rss() { awk '/^VmRSS/ { print $2 }' "/proc/$1/status"; }
 
+# unhex: the bytes of standard input, which has them in hexadecimal.
+unhex() { printf "$(sed 's/../\\x&/g')"; }
+
 # seal IMAGE TEXT: the line of a text under the seal of the image's guest.
 seal() {
     local digest
     digest=$(sha256sum < "$1" | cut -c1-64)
-    echo "$2 $({ printf "$(sed 's/../\\x&/g' <<< "$digest")"; printf %s "$2"; } | sha256sum | cut -c1-8)"
+    echo "$2 $({ unhex <<< "$digest"; printf %s "$2"; } | sha256sum | cut -c1-8)"
+}
+
+# opening TERM: the frame of the image's guest that opens the term, with no term before it.
+opening() {
+    local hex
+    hex=5646020239000000$(sha256sum < "$image" | cut -c1-64)02$(printf %08x "$1" | sed 's/\(..\)\(..\)\(..\)\(..\)/\4\3\2\1/')$(printf %040d 0)
+    unhex <<< "$hex$(unhex <<< "$hex" | sha256sum | cut -c1-64)"
 }
 
 # make_log K LOG [FILE]: makes keeper K's log, with the frames of a file where one is told.
@@ -155,6 +165,11 @@ client=$!
 sleep 0.1
 stop "$client"
 ask 'a client that is gone'
+
+# Whoever has the image opens the last term there is: it is out of reach.
+for k in 0 1 2; do opening 4294967295 > "frames.$k.b"; done
+sleep 0.2
+ask 'the last term there is, opened'
 
 # What is asked again and brings nothing new leads to no round: the logs stay as they are.
 sleep 0.5
@@ -317,6 +332,20 @@ for word in "hand $image 0 own 9" "keeper $image 0 own from frames.own to acks.a
 done
 says 'a second name, beside which no fences lie' 1 'fault file second.fences' hand "$image" 0 second 9
 rm second
+
+# A term that is mistyped is out of reach of the last fence, and the log is handed over behind that.
+make_log 0 reach
+cp reach.fences before
+for term in 4294967295 1048577; do says "a first term that is $term" 1 'fault fence far 0' hand "$image" 0 reach "$term"; done
+is 'no fence is added' yes "$(cmp -s before reach.fences && echo yes)"
+says 'the last term in reach' 0 '' hand "$image" 0 reach 1048576
+says 'the next one out of reach' 1 'fault fence far 1048576' hand "$image" 0 reach 2097153
+says 'the next one in reach' 0 '' hand "$image" 0 reach 2097152
+make_log 0 opened frames.own
+for term in 1048578 1048577; do opening "$term"; done > frames.reach
+: > acks.opened
+says 'openings in and out of reach' 0 '' keeper "$image" 0 opened from frames.reach to acks.opened
+is 'the one in reach is taken' 'ack 1048577 0 0 0' "$(tail -n 1 acks.opened | cut -d' ' -f1-5)"
 
 # A log that is renamed under its keeper, and one that is gone.
 for how in 'mv renamed renamed.1' 'rm renamed'; do

@@ -18,11 +18,12 @@ use wire::Request;
 /// How many steps a round has.
 const STEPS: u64 = 60;
 
-/// What whoever hands a log over may do between a keeper's acts.
+/// What whoever hands a log over may do between a keeper's acts. A term that is mistyped stops nobody.
 fn hand_act(dice: &mut Dice, term: Term) -> HandAct {
     match dice.roll() % 8 {
         0..=2 => HandAct::Looks,
-        3..=4 => HandAct::Fences(term),
+        3 => HandAct::Fences(term),
+        4 => HandAct::Fences(u32::MAX),
         5..=6 => HandAct::Reads,
         _ => HandAct::Ends,
     }
