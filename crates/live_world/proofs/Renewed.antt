@@ -257,7 +257,7 @@ module _ (v : LiveView) (keeper term : ℕ) (handed : Vec ℕ Global) where
   -- there is no new log
   pub none_new : (f : EventFault) → IsNoNewLog (guest_of v.image) v.quorum keeper term v.handed handed.items f → KeeperRefuses v (k.Renew keeper term handed) f
   none_new fault.HasSaid (inl same) = absurd cc
-  none_new fault.HasSaid (inr (n, h, within, there, log, whole, not)) = absurd not
+  none_new fault.HasSaid (inr (n, h, within, there, not)) = absurd not.2
   none_new f not = inl not
 
   -- none is put in the place of the keeper's

@@ -7,7 +7,7 @@ use Rattle.live_world.proofs.renewal.new_log.Goals as goal
 
 pub returns-in_err-logs-clause-refused : goal.returns-in_err-logs-clause-refused
 returns-in_err-logs-clause-refused c =
-    let e = err_from_is_err_and c.from_residual-in_err-logs.result c.from_residual-in_err-logs.ensures.1 in
+    let e = err_from_is_err_and c.from_residual.result c.from_residual.ensures.1 in
     rw (e.1)
     (subst (λ (f : EventFault). IsNoNewLog c.args.guest c.args.quorum c.args.keeper c.args.term c.args.handed.now c.args.numbers.now f) (sym e.2)
     c.in_err-logs.ensures.refused)

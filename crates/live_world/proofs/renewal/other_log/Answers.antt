@@ -12,7 +12,7 @@ returns-in-Err-clause-refused c =
 
 pub returns-in_err-look-clause-refused : goal.returns-in_err-look-clause-refused
 returns-in_err-look-clause-refused c =
-    let e = err_from_is_err_and c.from_residual-in_err-look.result c.from_residual-in_err-look.ensures.1 in
+    let e = err_from_is_err_and c.from_residual.result c.from_residual.ensures.1 in
     rw (e.1)
     (subst (λ (f : EventFault). IsNotHandedBy c.args.guest c.args.keeper c.args.term c.args.handed.now f) (sym e.2)
     (no_others c.args.guest c.args.keeper c.args.term c.args.handed.now c.in-Ok.log c.in_err-look.field-0.0

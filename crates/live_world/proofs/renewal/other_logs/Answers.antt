@@ -32,7 +32,7 @@ pub returns-in_err-other-clause-refused : goal.returns-in_err-other-clause-refus
 returns-in_err-other-clause-refused c =
     let within : c.loop-number.number-index < length c.args.numbers.now = omega arith in
     let below : get_or c.args.numbers.now c.loop-number.number-index 0 < length c.args.handed.now = omega arith in
-    let e = err_from_is_err_and c.from_residual-in_err-other.result c.from_residual-in_err-other.ensures.1 in
+    let e = err_from_is_err_and c.from_residual.result c.from_residual.ensures.1 in
     rw (e.1)
     (subst (λ (f : EventFault). IsNoNewLog c.args.guest c.args.quorum c.args.keeper c.args.term c.args.handed.now c.args.numbers.now f) (sym e.2)
     (no_gift c.args.guest c.args.quorum c.args.keeper c.args.term c.args.handed.now c.args.numbers.now

@@ -34,7 +34,7 @@ returns-in_err-files-clause-refused c =
     (subst (λ (all : List HandedTo). IsNoNewLog c.guest-guest.result v.quorum c.args.keeper c.args.term all c.args.handed.items f) c.deref-2.ensures.value
     (subst (λ (numbers : List ℕ). IsNoNewLog c.guest-guest.result v.quorum c.args.keeper c.args.term c.deref-2.result.now numbers f) c.deref-3.ensures.value
     c.in_err-files.ensures.refused)) in
-    let e = err_from_is_err_and c.from_residual-in_err-files.result c.from_residual-in_err-files.ensures.1 in
+    let e = err_from_is_err_and c.from_residual.result c.from_residual.ensures.1 in
     rw (e.1)
     (subst (λ (f : EventFault). KeeperRefuses c.args.self.now (on.Renew c.args.keeper c.args.term c.args.handed) f) (sym e.2)
     (subst (λ (z : LiveView). KeeperRefuses z (on.Renew c.args.keeper c.args.term c.args.handed) f) c.self.view_is
