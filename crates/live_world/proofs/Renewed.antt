@@ -1,5 +1,6 @@
 -- A keeper's number that goes to a new log, as an event of the world of processes.
-use Rattle.std.proofs.Common.{◌≡◌, ◌≢◌, ◌⊎◌, inl, inr, ℕ, ◌<◌, ◌≤◌, List, [], ◌∷◌, ◌++◌, All, Contains, Vec, Global, Result, Ok, Err, IfErr, OnOk, OnErr, length, drop, take, map, slice_get, slice_set, Option, None, Some, option_map, refl, sym, ap, subst, ◌∙◌, append-nil, cases_lt, arith}
+use Rattle.std.proofs.Common.{◌≡◌, ◌≢◌, ◌⊎◌, inl, inr, ℕ, ◌<◌, ◌≤◌, List, [], ◌∷◌, ◌++◌, All, Contains, Vec, Global, Result, Ok, Err, IfErr, OnOk, OnErr, length, drop, take, map, slice_get, slice_set, Option, None, Some, option_map, refl, sym, ap, subst, ◌∙◌, append-nil, arith}
+use Rattle.std.proofs.lemmas.Bool.{cases_lt}
 use Rattle.std.proofs.lemmas.List.{take-append-drop}
 use Rattle.std.proofs.lemmas.List.Elements.{All-cons, All-nil, Contains-append_cases}
 use Rattle.std.proofs.lemmas.Option.{slice_get_read}
@@ -140,7 +141,7 @@ module _ {v : LiveView} {w : ProcessWorld} (is : IsWorldOf v w) (ties : IsTied w
       let join = subst (λ (guest : GuestParts). IsJoinOf guest whole.frames by.handed.store) (sym guest) whole.join in
       let has = (ties.handed (record { keeper = g.giver; term = term; bytes = g.log }) there).frames in
       record {
-        given = record { keeper = g.giver; term = term; store = record { now = by.handed.store } };
+        given = record { keeper = g.giver; term = term; store = record { now = by.handed.store; ref_ptr = (0, 0) } };
         was = record { bytes = g.log; frames = whole.frames; there = there; splits = splits; join = join };
         by = refl;
         frames = whole.frames;
