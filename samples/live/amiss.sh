@@ -13,6 +13,8 @@ work=$(mktemp -d)
 passed=0
 failed=0
 asked=0
+# What the system says of a file that is not there.
+gone=': No such file or directory (os error 2)'
 
 # Ends what this script started, and nothing else.
 finish() {
@@ -105,7 +107,7 @@ make_log() {
 keep() {
     local k=$1
     shift
-    "$@" "$live" keeper "$image" "$k" "log.$k" from "frames.$k" "frames.$k.b" to "acks.$k" "acks.$k.b" 2>> "faults.$k" &
+    "$@" "$live" keeper "$image" "$k" "log.$k" from "frames.$k" "frames.$k.b" to "acks.$k" "acks.$k.b" status "status.$k" 2>> "faults.$k" &
     keeper[$k]=$!
 }
 
@@ -125,7 +127,7 @@ lead() {
     local term=$1 s=$2
     shift 2
     "$live" primary "$image" "$term" 3 2 in "in$s" out "out$s" nobody to "frames.0$s" "frames.1$s" "frames.2$s" from "acks.0$s" "acks.1$s" "acks.2$s" \
-        with "$@" 2>> faults.primary &
+        with "$@" status "status.primary$s" 2>> faults.primary &
     primary=$!
 }
 
@@ -233,9 +235,9 @@ stop "${keeper[2]}"
 ask 'its keeper goes on, and one is gone'
 
 # A keeper whose disk is full ends, and the others go on.
-keep 2 bash -c 'trap "" XFSZ; ulimit -f 1; exec "$@"' -
+keep 2 bash -c 'trap "" XFSZ; ulimit -f 4; exec "$@"' -
 for _ in 1 2 3 4; do ask 'a disk gets full'; done
-ends 'a keeper whose disk is full' "${keeper[2]}" 'fault file log.2' faults.2
+ends 'a keeper whose disk is full' "${keeper[2]}" 'fault file log.2: File too large (os error 27)' faults.2
 : > faults.2
 ask 'two keepers are left'
 keep 2
@@ -264,20 +266,44 @@ notes() {
         if grep -qx "$line" "$file"; then pass; else fail "$what: $line" < "$file"; fi
     done
 }
+# tells WHAT FILE LINE..: whether the status file has each line soon.
+tells() {
+    local what=$1 file=$2 line
+    shift 2
+    for line in "$@"; do
+        has "$file" "wazhilom_$line"
+        if grep -qx "wazhilom_$line" "$file"; then pass; else fail "$what: $line" < <(grep -v '^#' "$file"); fi
+    done
+}
 notes 'a process begins' faults.primary 'note leads 1' 'note leads 2'
 notes 'a process begins' faults.1 'note keeps 1'
 for k in 0 1; do stop "${keeper[$k]}"; done
 since=${EPOCHREALTIME/./}
 echo 03070001 >> words
 asked=$((asked + 1))
-timeout 20 "$live" client words 8 300 to in from out > answers 2> faults.client &
+timeout 20 "$live" client words 8 300 to in from out status status.client > answers 2> faults.client &
 client=$!
 notes 'keepers are gone' faults.primary 'note keeper 0 lost' 'note keeper 1 lost' 'note few 1'
+tells 'keepers are gone' status.primary 'primary 1' 'term 2' 'keepers_needed 2' 'keepers_heard 1' 'waiting_outputs [1-9][0-9]*' 'keeper_heard_seconds{keeper="[01]"} [12]' 'keeper_heard_seconds{keeper="2"} 0'
 notes 'keepers are gone' faults.client "note unanswered $((asked - 1))"
+tells 'keepers are gone' status.client 'client 1' 'requests [1-9][0-9]*' "answers $((asked - 1))" 'unanswered_seconds [12]'
 is 'it is noted in some two seconds' yes "$([ $((${EPOCHREALTIME/./} - since)) -lt 2500000 ] && echo yes)"
+tells 'a keeper is left' status.2 'keeper{keeper="2"} 1' 'term 2' 'fence 2' "log_bytes $(wc -c < log.2)" 'acknowledged_seconds [0-9]*' 'hart_steps{hart="0"} [1-9][0-9]*'
+rm status.0 status.1
 for k in 0 1; do keep "$k"; done
 notes 'keepers are back' faults.primary 'note keeper 0 back' 'note keeper 1 back' 'note enough [23]'
 notes 'keepers are back' faults.client "note answered $((asked - 1))"
+tells 'keepers are back' status.primary 'keepers_heard 3' 'keeper_lag_steps{keeper="1"} [0-9]*' 'keeper_lag_bytes{keeper="1"} [0-9]*'
+tells 'a keeper is back' status.1 'term 2' 'fence 2'
+"$live" status status.primary status.1 > table 2> err
+is 'a table' "0 primary file status.primary term 2 heard 3 of 3 keeper 1 file status.1 term 2 fence 2" \
+    "$? $(grep -v '^acknowledged' table | sed 's/ \(waiting\|bytes\) .*//' | tr '\n' ' ' | sed 's/ $//')"
+is 'a line for each keeper' 3 "$(grep -c '^acknowledged [0-2] file status.primary steps' table)"
+"$live" status status.primary none > table 2> err
+is 'a table of a file that is not there' "1 fault file none$gone" "$? $(cat err)"
+mkfifo unheard
+timeout 1.8 "$live" client words 8 300 to nobody from unheard status none/status 2> err
+is 'a status file in no folder is told once' "124 fault file none/status$gone" "$? $(cat err)"
 wait "$client"
 is 'the client ends' "0 number $((asked - 1)) word a0070000" "$? $(tail -n 1 answers)"
 
@@ -330,7 +356,7 @@ ln own second
 for word in "hand $image 0 own 9" "keeper $image 0 own from frames.own to acks.alias" "keeper $image 0 second from frames.own to acks.alias"; do
     says 'a log with two names' 1 'fault log link' $word
 done
-says 'a second name, beside which no fences lie' 1 'fault file second.fences' hand "$image" 0 second 9
+says 'a second name, beside which no fences lie' 1 "fault file second.fences$gone" hand "$image" 0 second 9
 rm second
 
 # A term that is mistyped is out of reach of the last fence, and the log is handed over behind that.
@@ -386,12 +412,12 @@ if command -v cc > /dev/null; then
     make_log 0 unsynced
     make_log 0 unfenced
     # the first call is for the folder, the second for the log
-    LD_PRELOAD=$work/refuse.so CALLS_OF=sync CALLS_AS=once CALLS_AT=2 says 'a log that is not brought to disk' 1 'fault file unsynced' \
+    LD_PRELOAD=$work/refuse.so CALLS_OF=sync CALLS_AS=once CALLS_AT=2 says 'a log that is not brought to disk' 1 'fault file unsynced: Input/output error (os error 5)' \
         keeper "$image" 0 unsynced from frames.own to acks.unsynced
     is 'nothing is acknowledged' 1 "$(wc -l < acks.unsynced)"
     says 'its keeper begins no more' 1 'fault log failed' keeper "$image" 0 unsynced from frames.own to acks.unsynced
     says 'and it is not handed over' 1 'fault log failed' hand "$image" 0 unsynced 1
-    LD_PRELOAD=$work/refuse.so CALLS_OF=sync CALLS_AS=once CALLS_AT=3 says 'a fence that is not brought to disk' 1 'fault file unfenced.fences' hand "$image" 0 unfenced 1
+    LD_PRELOAD=$work/refuse.so CALLS_OF=sync CALLS_AS=once CALLS_AT=3 says 'a fence that is not brought to disk' 1 'fault file unfenced.fences: Input/output error (os error 5)' hand "$image" 0 unfenced 1
     says 'its log is not handed over' 1 'fault log failed' hand "$image" 0 unfenced 2
 else
     echo 'left out a disk that does not take what was added, since no C compiler is installed'
@@ -416,12 +442,12 @@ whole
 make_log 1 theirs frames.own
 cp mine copy
 cp mine.fences copy.fences
-refused 'a name that is mistyped' 'fault file lgo' 0 lgo
+refused 'a name that is mistyped' "fault file lgo$gone" 0 lgo
 refused 'another number' 'fault log keeper' 1
 refused "another keeper's log" 'fault log keeper' 0 theirs
 refused 'another guest' 'fault log line' 0 mine "$other"
 : > lgo
-refused 'a log that nobody made' 'fault file lgo.fences' 0 lgo
+refused 'a log that nobody made' "fault file lgo.fences$gone" 0 lgo
 : > lgo.fences
 refused 'fences that nobody made' 'fault log line' 0 lgo
 head -c 40 mine.fences > lgo.fences
@@ -446,7 +472,7 @@ refused "a log that was renamed over another's with its fences" 'fault log keepe
 whole
 cp mine.fences copy.fences
 rm mine.fences
-refused 'fences that were removed' 'fault file mine.fences'
+refused 'fences that were removed' "fault file mine.fences$gone"
 cp copy.fences mine.fences
 refused 'fences that were restored' 'fault log fences'
 mv copy.fences mine.fences
@@ -478,7 +504,7 @@ ln -s nowhere new
 says 'a link that is there' 1 'fault log there' make "$image" 0 3 2 "$pair" new
 is 'it leads nowhere' no "$([ -e nowhere ] && echo yes || echo no)"
 rm new
-says 'a folder that is not there' 1 'fault file none/new' make "$image" 0 3 2 "$pair" none/new
+says 'a folder that is not there' 1 "fault file none/new$gone" make "$image" 0 3 2 "$pair" none/new
 make_log 0 new
 unmade 'a log that was made'
 

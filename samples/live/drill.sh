@@ -179,7 +179,7 @@ cp "$work/frames" "$work/log.1"
 for k in 0 2; do : > "$work/log.$k"; done
 outputs "$work" "$work/outputs"
 same 'its frames have each request once' "$work/files.wanted" "$work/outputs"
-refuses 'it is started once more' 1 "fault file $work/handed" primary "$image" 1 1 1 "${leads[@]}" "$work/handed"
+refuses 'it is started once more' 1 "fault file $work/handed: No such file or directory (os error 2)" primary "$image" 1 1 1 "${leads[@]}" "$work/handed"
 refuses 'a client over files' 0 '' client "$work/files.words" 4 1000 to "$work/answers" from <(sed 's/number/term 1 hart 0 number/; s/word/step 1 word/' "$work/files.wanted")
 same 'it prints the answers' "$work/files.wanted" "$work/out"
 

@@ -44,7 +44,9 @@ printf 'VFx' > broken
 
 # Words, files and images.
 says 'fault usage' keeper "$image" 9 log from none to none
-says 'fault file nowhere' check nowhere log
+says 'fault file nowhere: No such file or directory (os error 2)' check nowhere log
+says 'fault file .: Is a directory (os error 21)' check . log
+says "fault file $image/log: Not a directory (os error 20)" hand "$image" 0 "$image/log" 1
 printf 'harts 1\npages 1\n0000006\n' > bad.image
 says 'fault image 1 line 3' check bad.image log
 printf 'harts 33\npages 1\n' > bad.image
@@ -97,6 +99,7 @@ rm log log.fences
 make 0 log own
 "$live" hand "$image" 0 log 9 > handed
 says 'fault fence 9' hand "$image" 0 log 9
+says 'fault fence far 9' hand "$image" 0 log 1048586
 cp log.fences copy
 mv copy log.fences
 kept 'fault log fences'

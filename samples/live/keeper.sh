@@ -309,8 +309,8 @@ printf '0 5 word 0000002b\n' > "$work/script"
 "$live" keeper "$top/samples/hand_over.image" 0 "$work/new.3" from "$work/other.log" to "$work/acks"
 refuses 'a frame that clashes' 1 'fault input 0 clash' keeper "$top/samples/hand_over.image" 0 "$work/new.3" from "$work/clash.log" to "$work/acks"
 if cmp -s "$work/other.log" "$work/new.3"; then pass; else fail 'the log is left as it was' < /dev/null; fi
-refuses 'an input that is not there' 1 "fault file $work/none" keeper "$image" 0 "$work/new.4" from "$work/none" to "$work/acks"
-refuses 'an output that is full' 1 'fault file /dev/full' keeper "$image" 0 "$work/new.5" from "$work/waits" to /dev/full
+refuses 'an input that is not there' 1 "fault file $work/none: No such file or directory (os error 2)" keeper "$image" 0 "$work/new.4" from "$work/none" to "$work/acks"
+refuses 'an output that is full' 1 'fault file /dev/full: No space left on device (os error 28)' keeper "$image" 0 "$work/new.5" from "$work/waits" to /dev/full
 "$live" hand "$image" 0 "$work/new.5" 1 > /dev/full 2> "$work/err"
 is 'standard output that is full' 'fault write' "$(faults "$work/err")"
 (
@@ -318,7 +318,7 @@ is 'standard output that is full' 'fault write' "$(faults "$work/err")"
     ulimit -f 1
     exec "$live" keeper "$image" 0 "$work/new.6" from "$work/run.log" to /dev/null
 ) 2> "$work/err"
-is 'a disk that is full' "fault file $work/new.6" "$(faults "$work/err")"
+is 'a disk that is full' "fault file $work/new.6: File too large (os error 27)" "$(faults "$work/err")"
 refuses 'a log that failed' 1 'fault log failed' keeper "$image" 0 "$work/new.6" from "$work/run.log" to "$work/acks"
 refuses 'a log that failed, handed over' 1 'fault log failed' hand "$image" 0 "$work/new.6" 1
 rm "$work/new.6.failed"

@@ -92,6 +92,7 @@ bytes 0
 frames 0 bytes 0
 last term 0
 position term 0 counts 0 0 0 0
+grant 1
 rest 0" "$(cat out)"
 make 1 whole all
 says 'a whole log' 0 '' check "$image" whole
@@ -101,10 +102,15 @@ bytes $size
 frames $many bytes $size
 last term 1
 $place
+grant 2
 rest 0" "$(cat out)"
 "$live" hand "$image" 1 whole 7 > handed
 says 'a log that was fenced off' 0 '' check "$image" whole
 is 'has its fence' 'fence 7' "$(sed -n 2p out)"
+is 'and the next term' 'grant 8' "$(sed -n 7p out)"
+"$live" hand "$image" 1 whole 36864 > handed
+says 'a log that a candidate asked for' 0 '' check "$image" whole
+is 'has the next round for a person' 'grant 65536' "$(sed -n 7p out)"
 make 0 torn front
 head -c 20 all >> torn
 says 'a log that is torn' 0 '' check "$image" torn
@@ -146,11 +152,11 @@ cat front zeros > mine
 "$live" make "$image" 1 3 2 "$(echo "$pair" | tr 0-9a-f 1-9a-f0)" foreign
 kept 'a log of another pair' 'fault from 0 pair' foreign
 cp whole bare
-kept 'a log without fences' 'fault file bare.fences' bare
+kept 'a log without fences' 'fault file bare.fences: No such file or directory (os error 2)' bare
 "$live" make "$other" 1 3 2 "$pair" theirs
 kept 'a log of another guest' 'fault from 0 line' theirs
 cp whole.fences gone.fences
-kept 'no log' 'fault file gone' gone
+kept 'no log' 'fault file gone: No such file or directory (os error 2)' gone
 cat "$top/samples/four_harts.script" > script
 echo '0 1 word 00000077' >> script
 "$workbench" run "$image" script 20000 unlike > machine

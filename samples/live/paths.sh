@@ -3,6 +3,8 @@
 # nobody waits. LIVE and WORKBENCH are the built programs, by themselves those that `rt run` leaves. In some forty seconds; the last line is 'N passed, N failed'.
 # Needs bash, mkfifo and timeout.
 . "$(dirname "$0")/common.sh"
+# What the system says of a file that is not there.
+gone=': No such file or directory (os error 2)'
 image=$work/image
 # A guest of one hart that says each word that it is given.
 printf '%s\n' 'harts 1' 'pages 1' f00000b7 00000293 00001337 00135313 0040a103 fe510ee3 0060a623 0000a183 00010293 0030a423 fe9ff06f > "$image"
@@ -89,7 +91,7 @@ lead 2 .b 0 1
 ask 'paths of another site are removed' .b 100
 for k in 0 1 2; do is "keeper $k runs" yes "$(runs "${keeper[$k]}" && echo yes)"; done
 sleep 1
-is 'each path is told once' 'fault file acks.0.a fault file frames.0.a' "$(faults faults.0 | sort | tr '\n' ' ' | sed 's/ $//')"
+is 'each path is told once' "fault file acks.0.a$gone fault file frames.0.a$gone" "$(faults faults.0 | sort | tr '\n' ' ' | sed 's/ $//')"
 stop "$primary"
 
 # The path to a keeper is removed, which is gone.
@@ -99,7 +101,7 @@ ask 'a primary with all paths' '' 50
 stop "${keeper[2]}"
 rm frames.2
 ask 'a path to one keeper is removed' '' 100
-is 'the path is told' 'fault file frames.2' "$(faults faults.primary)"
+is 'the path is told' "fault file frames.2$gone" "$(faults faults.primary)"
 mkfifo frames.2
 keep 2
 sleep 1.5

@@ -146,7 +146,7 @@ refuses 'of one other twice' 1 'fault live 1' renew "$image" 2 "$work/few" 3 "${
 refuses 'for another term' 1 'fault handed term' renew "$image" 2 "$work/few" 4 "${handed[@]}"
 refuses 'of its own' 1 'fault handed keeper' renew "$image" 1 "$work/few" 3 "${handed[@]}"
 refuses "of no keeper's number" 1 'fault log keeper' renew "$image" 3 "$work/few" 3 "${handed[@]}"
-refuses 'of what is no file' 1 "fault file $work/none" renew "$image" 2 "$work/few" 3 "${handed[0]}" "$work/none"
+refuses 'of what is no file' 1 "fault file $work/none: No such file or directory (os error 2)" renew "$image" 2 "$work/few" 3 "${handed[0]}" "$work/none"
 head -c -1 "${handed[1]}" > "$work/torn"
 refuses 'of a torn one' 1 'fault handed 1 line' renew "$image" 2 "$work/few" 3 "${handed[0]}" "$work/torn"
 for name in few few.fences few.failed; do if [ -e "$work/$name" ]; then fail "what is refused leaves no $name" < /dev/null; else pass; fi; done

@@ -1,6 +1,6 @@
 //! What is noted of keepers, from tick to tick.
 
-use crate::entry::{Entry, Standing};
+use crate::entry::{Entry, KeeperStanding, Standing};
 use crate::finding::Finding;
 use ft_types::{Counts, KEEPER_ROW, Keeper, Memory, Quorum, Term};
 use std::alloc::Global;
@@ -58,8 +58,13 @@ impl Attendance {
         self.entries[keeper.index()].ask();
     }
 
+    /// How a keeper is known to stand.
+    pub fn standing_of(&self, keeper: Keeper) -> KeeperStanding {
+        self.entries[keeper.index()].standing()
+    }
+
     /// How many are heard and not fenced off.
-    fn there(&self) -> u8 {
+    pub fn there(&self) -> u8 {
         let mut there = 0u8;
         for number in 0..self.quorum.keepers() {
             if self.entries[Keeper::new(number).index()].is_there() {

@@ -5,7 +5,7 @@ use ft_types::{Counts, Term};
 use std::option::Option;
 
 /// For how many ticks nothing is heard of a keeper that is lost.
-const SILENT: u8 = 2;
+const SILENT: u32 = 2;
 
 /// How a keeper stands, which it did not before.
 #[derive(Clone, Copy)]
@@ -15,13 +15,22 @@ pub(crate) enum Standing {
     Fenced(Term),
 }
 
+/// How a keeper is known to stand.
+#[derive(Clone, Copy)]
+pub struct KeeperStanding {
+    /// What it acknowledged last in the term; none before.
+    pub acknowledged: Option<Counts>,
+    /// At how many ticks in a row it was not heard.
+    pub silent: u32,
+}
+
 /// What is noted of a keeper.
 #[derive(Clone, Copy)]
 pub(crate) struct Entry {
     /// Whether it was heard since the last tick.
     is_heard: bool,
     /// At how many ticks in a row it was not.
-    silent: u8,
+    silent: u32,
     /// Whether that was found to be too many.
     is_lost: bool,
     /// The later term that it acknowledged something in.
@@ -123,6 +132,14 @@ impl Entry {
         } else {
             Standing::Back
         })
+    }
+
+    /// How it is known to stand.
+    pub(crate) fn standing(&self) -> KeeperStanding {
+        KeeperStanding {
+            acknowledged: self.acknowledged,
+            silent: self.silent,
+        }
     }
 
     /// Whether it may hold outputs, as far as it is known.

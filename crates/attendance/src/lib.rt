@@ -7,4 +7,5 @@ mod finding;
 mod patience;
 
 pub use attendance::Attendance;
+pub use entry::KeeperStanding;
 pub use finding::Finding;

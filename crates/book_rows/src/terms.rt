@@ -193,9 +193,9 @@ fn tells_again(
     hears(alloc, leader, &Request::From { hart, number }, told)
 }
 
-/// Whether a primary of this term keeps so many outputs.
-fn keeps(leader: &Leader, kept: usize, term: Term) -> bool {
-    leader.kept() == kept && leader.term() == term
+/// Whether so many outputs of a primary of this term wait.
+fn has_waiting(leader: &Leader, waiting: usize, term: Term) -> bool {
+    leader.waiting() == waiting && leader.term() == term
 }
 
 /// What happens to a primary.
@@ -206,8 +206,8 @@ enum Deed {
     Again(Count),
     /// A keeper acknowledges all that the primary has, in a term.
     Held(u8, Term),
-    /// It keeps so many outputs, in its term.
-    Keeps(usize, Term),
+    /// So many of its outputs wait, in its term.
+    HasWaiting(usize, Term),
     /// Its harts only wait.
     Waits,
     /// It goes round.
@@ -223,7 +223,7 @@ fn does(alloc: Global, leader: &mut Leader, (deed, told): &Row) -> Result<bool, 
         Deed::Word(word, number, came) => hears_word(alloc, leader, word, number, came),
         Deed::Again(number) => tells_again(alloc, leader, number, told),
         Deed::Held(keeper, term) => lets_go(alloc, leader, keeper, term, told),
-        Deed::Keeps(kept, term) => Ok(keeps(&*leader, kept, term)),
+        Deed::HasWaiting(waiting, term) => Ok(has_waiting(&*leader, waiting, term)),
         Deed::Waits => leader.only_waits(alloc),
         Deed::Round => Ok(false),
     }
@@ -276,7 +276,7 @@ static SECOND: [Row; 10] = [
     (Deed::Held(4, 2), &[]),
     (Deed::Held(1, 2), &[]),
     (Deed::Held(2, 2), &[(3, 73)]),
-    (Deed::Keeps(3, 2), &[]),
+    (Deed::HasWaiting(0, 2), &[]),
 ];
 
 /// Whether each of two terms goes so.

@@ -1,7 +1,6 @@
 -- What packets ask for: actions, points, and the kinds of packets.
 use Rattle.std.proofs.Common.{◌≡◌, ◌⊎◌, inl, inr, ℕ, ◌<◌, ◌==◌, ◌||◌, Bool, true, false, Option, None, Some, List, [], ◌∷◌, ◌++◌, refl, sym, ap, subst, ◌∙◌, arith}
 use Rattle.std.specs.Prelude.{codes}
-use Rattle.std.proofs.lemmas.Bool.Decides.{nat_tests}
 use Rattle.debugging.specs.declared.commands.Command.{Command}
 use Rattle.debugging.specs.declared.commands.Command.TheVariants as command
 use Rattle.debugging.specs.declared.commands.Other.{Other}
@@ -17,7 +16,9 @@ use Rattle.debugging.specs.Asked.{HasNone, IsHex, IsRange, IsThread, IsFirstActi
 use Rattle.moments.specs.declared.points.Point.{Point}
 use Rattle.debugging.specs.Points.{IsPoint}
 use Rattle.debugging.specs.Notes.{AsksToNote}
-use Rattle.debugging.specs.Commands.{AsksFor}
+use Rattle.debugging.specs.declared.commands.Kind.{Kind}
+use Rattle.debugging.specs.declared.commands.Kind.TheVariants as kinds
+use Rattle.debugging.specs.Commands.{kind_of, AsksFor}
 use Rattle.debugging.proofs.Changes.{changing}
 use Rattle.debugging.proofs.Digits.{cut_is, uncut_is}
 
@@ -56,17 +57,18 @@ long_parts packet front behind kind named p cut (actions, action, is, first, the
 
 -- ---- kinds of packets
 
--- packets that ask for such a command begin with such a byte
-abbrev Opens : Command → ℕ → Bool
-Opens (command.Show shown) kind = kind == 63 || kind == 103 || kind == 112 || kind == 109
-Opens command.Change kind = kind == 71 || kind == 80 || kind == 77 || kind == 88
-Opens (command.Note noted) kind = kind == 72 || kind == 84 || kind == 90 || kind == 122
-Opens (command.Go w t) kind = kind == 115 || kind == 99 || kind == 98 || kind == 118
-Opens (command.Other rest) kind = kind == 113 || kind == 81 || kind == 68 || kind == 107
+-- the kind of packets that ask for the command
+abbrev class : Command → Kind
+class (command.Show shown) = kinds.Shows
+class command.Change = kinds.Changes
+class (command.Note noted) = kinds.Notes
+class (command.Go w t) = kinds.Goes
+class (command.Other other.Unknown) = kinds.Nothing
+class (command.Other another) = kinds.Asks
 
 -- a packet that asks for the command, by its first byte
 abbrev HasOpening : List ℕ → Command → Type 0
-HasOpening packet c = (kind : ℕ) × (rest : List ℕ) × (packet ≡ kind ∷ rest) × (Opens c kind ≡ true)
+HasOpening packet c = (first : ℕ) × (rest : List ℕ) × (packet ≡ first ∷ rest) × (kind_of first ≡ class c)
 
 opened : (packet : List ℕ) (c : Command) → AsksFor packet c → HasOpening packet c
 opened packet (command.Show show.Why) asks = (63, [], asks, refl)
@@ -84,38 +86,42 @@ opened packet (command.Go way.Continue t) (inl asks, none) = (99, [], asks, refl
 opened packet (command.Go way.Continue t) (inr asks, none) = (118, _, asks.1.2, refl)
 opened packet (command.Go way.StepBack t) asks = (98, _, asks.0, refl)
 opened packet (command.Go way.ContinueBack t) asks = (98, _, asks.0, refl)
-opened packet (command.Other other.Query) (kind, rest, inl is, asks) = (kind, rest, asks, subst (λ (k : ℕ). Opens (command.Other other.Query) k ≡ true) (sym is) refl)
-opened packet (command.Other other.Query) (kind, rest, inr is, asks) = (kind, rest, asks, subst (λ (k : ℕ). Opens (command.Other other.Query) k ≡ true) (sym is) refl)
+opened packet (command.Other other.Query) (kind, rest, inl is, asks) = (kind, rest, asks, subst (λ (k : ℕ). kind_of k ≡ kinds.Asks) (sym is) refl)
+opened packet (command.Other other.Query) (kind, rest, inr is, asks) = (kind, rest, asks, subst (λ (k : ℕ). kind_of k ≡ kinds.Asks) (sym is) refl)
 opened packet (command.Other other.Detach) asks = (68, [], asks, refl)
 opened packet (command.Other other.Kill) asks = (107, [], asks, refl)
 opened packet (command.Other other.Wrong) asks = absurd asks
-opened packet (command.Other other.Unknown) asks = absurd asks
+opened packet (command.Other other.Unknown) (first, rest, unknown, asks) = (first, rest, asks, unknown)
 
--- so does this one
-opens : (packet : List ℕ) (kind : ℕ) (rest : List ℕ) (c : Command) → packet ≡ kind ∷ rest → AsksFor packet c → Opens c kind ≡ true
-opens packet kind rest c is asks =
+-- so is the kind of this one
+opens : (packet : List ℕ) (first : ℕ) (rest : List ℕ) (c : Command) → packet ≡ first ∷ rest → AsksFor packet c → kind_of first ≡ class c
+opens packet first rest c is asks =
     let o = opened packet c asks in
-    let same : o.0 ≡ kind = cc in
-    subst (λ (k : ℕ). Opens c k ≡ true) same o.3
+    let same : o.0 ≡ first = cc in
+    subst (λ (k : ℕ). kind_of k ≡ class c) same o.3
 
 -- what would change the past asks for that alone
 pub change_asked : (packet : List ℕ) (kind : ℕ) (rest : List ℕ) (c : Command) → packet ≡ kind ∷ rest →
-    (kind == 71 || kind == 80 || kind == 77 || kind == 88) ≡ true → AsksFor packet c → command.Change ≡ c
+    kind_of kind ≡ kinds.Changes → AsksFor packet c → command.Change ≡ c
 change_asked packet kind rest command.Change is changes asks = refl
 change_asked packet kind rest (command.Show shown) is changes asks =
-    let o : (kind == 63 || kind == 103 || kind == 112 || kind == 109) ≡ true = opens packet kind rest (command.Show shown) is asks in absurd (grind (arith, nat_tests))
+    let o = opens packet kind rest (command.Show shown) is asks in absurd cc
 change_asked packet kind rest (command.Note noted) is changes asks =
-    let o : (kind == 72 || kind == 84 || kind == 90 || kind == 122) ≡ true = opens packet kind rest (command.Note noted) is asks in
-    absurd (grind (arith, nat_tests))
+    let o = opens packet kind rest (command.Note noted) is asks in absurd cc
 change_asked packet kind rest (command.Go w t) is changes asks =
-    let o : (kind == 115 || kind == 99 || kind == 98 || kind == 118) ≡ true = opens packet kind rest (command.Go w t) is asks in
-    absurd (grind (arith, nat_tests))
-change_asked packet kind rest (command.Other another) is changes asks =
-    let o : (kind == 113 || kind == 81 || kind == 68 || kind == 107) ≡ true = opens packet kind rest (command.Other another) is asks in
-    absurd (grind (arith, nat_tests))
+    let o = opens packet kind rest (command.Go w t) is asks in absurd cc
+change_asked packet kind rest (command.Other other.Query) is changes asks =
+    let o = opens packet kind rest (command.Other other.Query) is asks in absurd cc
+change_asked packet kind rest (command.Other other.Detach) is changes asks =
+    let o = opens packet kind rest (command.Other other.Detach) is asks in absurd cc
+change_asked packet kind rest (command.Other other.Kill) is changes asks =
+    let o = opens packet kind rest (command.Other other.Kill) is asks in absurd cc
+change_asked packet kind rest (command.Other other.Unknown) is changes asks =
+    let o = opens packet kind rest (command.Other other.Unknown) is asks in absurd cc
+change_asked packet kind rest (command.Other other.Wrong) is changes asks = absurd asks
 
 -- what shows registers or memory is read behind its first byte
-pub show_asked : (packet : List ℕ) (kind : ℕ) (rest : List ℕ) (c d : Command) → packet ≡ kind ∷ rest → (kind == 63 || kind == 103 || kind == 112 || kind == 109) ≡ true →
+pub show_asked : (packet : List ℕ) (kind : ℕ) (rest : List ℕ) (c d : Command) → packet ≡ kind ∷ rest → kind_of kind ≡ kinds.Shows →
     (kind ≡ 63 → rest ≡ [] → d ≡ command.Show show.Why) → (kind ≡ 103 → rest ≡ [] → d ≡ command.Show show.Registers) → ((n : ℕ) → kind ≡ 112 → IsHex rest n → d ≡ command.Show (show.Register n)) →
     ((address many : ℕ) → kind ≡ 109 → IsRange rest address many → d ≡ command.Show (show.Memory (record { first = address; length = many }))) →
     AsksFor packet c → d ≡ c
@@ -129,30 +135,32 @@ show_asked packet kind rest (command.Show (show.Memory range)) d is shows why re
     let first : kind ≡ 109 = cc in let behind : text ≡ rest = cc in
     memory range.first range.length first (subst (λ (t : List ℕ). IsRange t range.first range.length) behind there)
 show_asked packet kind rest command.Change d is shows why registers register memory asks =
-    let o : (kind == 71 || kind == 80 || kind == 77 || kind == 88) ≡ true = opens packet kind rest command.Change is asks in
-    absurd (grind (arith, nat_tests))
+    let o = opens packet kind rest command.Change is asks in absurd cc
 show_asked packet kind rest (command.Note noted) d is shows why registers register memory asks =
-    let o : (kind == 72 || kind == 84 || kind == 90 || kind == 122) ≡ true = opens packet kind rest (command.Note noted) is asks in
-    absurd (grind (arith, nat_tests))
+    let o = opens packet kind rest (command.Note noted) is asks in absurd cc
 show_asked packet kind rest (command.Go w t) d is shows why registers register memory asks =
-    let o : (kind == 115 || kind == 99 || kind == 98 || kind == 118) ≡ true = opens packet kind rest (command.Go w t) is asks in
-    absurd (grind (arith, nat_tests))
-show_asked packet kind rest (command.Other another) d is shows why registers register memory asks =
-    let o : (kind == 113 || kind == 81 || kind == 68 || kind == 107) ≡ true = opens packet kind rest (command.Other another) is asks in
-    absurd (grind (arith, nat_tests))
+    let o = opens packet kind rest (command.Go w t) is asks in absurd cc
+show_asked packet kind rest (command.Other other.Query) d is shows why registers register memory asks =
+    let o = opens packet kind rest (command.Other other.Query) is asks in absurd cc
+show_asked packet kind rest (command.Other other.Detach) d is shows why registers register memory asks =
+    let o = opens packet kind rest (command.Other other.Detach) is asks in absurd cc
+show_asked packet kind rest (command.Other other.Kill) d is shows why registers register memory asks =
+    let o = opens packet kind rest (command.Other other.Kill) is asks in absurd cc
+show_asked packet kind rest (command.Other other.Unknown) d is shows why registers register memory asks =
+    let o = opens packet kind rest (command.Other other.Unknown) is asks in absurd cc
+show_asked packet kind rest (command.Other other.Wrong) d is shows why registers register memory asks = absurd asks
 
 -- what is noted is read behind the first byte
 pub note_asked : (packet : List ℕ) (kind : ℕ) (rest : List ℕ) (c d : Command) → packet ≡ kind ∷ rest →
-    (kind == 72 || kind == 84 || kind == 90 || kind == 122) ≡ true →
+    kind_of kind ≡ kinds.Notes →
     ((k : ℕ) (named : List ℕ) (t : Thread) → kind ≡ 72 → rest ≡ k ∷ named → IsThread named t → d ≡ command.Note (note.Choose k t)) →
     ((t : Thread) → kind ≡ 84 → IsThread rest t → d ≡ command.Note (note.IsThere t)) →
     ((point : Point) → kind ≡ 90 → IsPoint rest point → d ≡ command.Note (note.Insert point)) →
     ((point : Point) → kind ≡ 122 → IsPoint rest point → d ≡ command.Note (note.Remove point)) → AsksFor packet c → d ≡ c
 note_asked packet kind rest (command.Show shown) d is notes choose there insert remove asks =
-    let o : (kind == 63 || kind == 103 || kind == 112 || kind == 109) ≡ true = opens packet kind rest (command.Show shown) is asks in absurd (grind (arith, nat_tests))
+    let o = opens packet kind rest (command.Show shown) is asks in absurd cc
 note_asked packet kind rest command.Change d is notes choose there insert remove asks =
-    let o : (kind == 71 || kind == 80 || kind == 77 || kind == 88) ≡ true = opens packet kind rest command.Change is asks in
-    absurd (grind (arith, nat_tests))
+    let o = opens packet kind rest command.Change is asks in absurd cc
 note_asked packet kind rest (command.Note (note.Choose k t)) d is notes choose there insert remove (named, asks, names) =
     let first : kind ≡ 72 = cc in let behind : rest ≡ k ∷ named = cc in choose k named t first behind names
 note_asked packet kind rest (command.Note (note.IsThere t)) d is notes choose there insert remove (named, asks, names) =
@@ -162,49 +170,76 @@ note_asked packet kind rest (command.Note (note.Insert point)) d is notes choose
 note_asked packet kind rest (command.Note (note.Remove point)) d is notes choose there insert remove (text, asks, names) =
     let first : kind ≡ 122 = cc in let behind : text ≡ rest = cc in remove point first (subst (λ (x : List ℕ). IsPoint x point) behind names)
 note_asked packet kind rest (command.Go w t) d is notes choose there insert remove asks =
-    let o : (kind == 115 || kind == 99 || kind == 98 || kind == 118) ≡ true = opens packet kind rest (command.Go w t) is asks in
-    absurd (grind (arith, nat_tests))
-note_asked packet kind rest (command.Other another) d is notes choose there insert remove asks =
-    let o : (kind == 113 || kind == 81 || kind == 68 || kind == 107) ≡ true = opens packet kind rest (command.Other another) is asks in
-    absurd (grind (arith, nat_tests))
+    let o = opens packet kind rest (command.Go w t) is asks in absurd cc
+note_asked packet kind rest (command.Other other.Query) d is notes choose there insert remove asks =
+    let o = opens packet kind rest (command.Other other.Query) is asks in absurd cc
+note_asked packet kind rest (command.Other other.Detach) d is notes choose there insert remove asks =
+    let o = opens packet kind rest (command.Other other.Detach) is asks in absurd cc
+note_asked packet kind rest (command.Other other.Kill) d is notes choose there insert remove asks =
+    let o = opens packet kind rest (command.Other other.Kill) is asks in absurd cc
+note_asked packet kind rest (command.Other other.Unknown) d is notes choose there insert remove asks =
+    let o = opens packet kind rest (command.Other other.Unknown) is asks in absurd cc
+note_asked packet kind rest (command.Other other.Wrong) d is notes choose there insert remove asks = absurd asks
 
 -- what is a query or ends the session asks for that
 pub other_asked : (packet : List ℕ) (kind : ℕ) (rest : List ℕ) (c : Command) (d : Other) → packet ≡ kind ∷ rest →
-    (kind == 113 || kind == 81 || kind == 68 || kind == 107) ≡ true → ((kind ≡ 113) ⊎ (kind ≡ 81) → d ≡ other.Query) → (kind ≡ 68 → d ≡ other.Detach) →
+    kind_of kind ≡ kinds.Asks → ((kind ≡ 113) ⊎ (kind ≡ 81) → d ≡ other.Query) → (kind ≡ 68 → d ≡ other.Detach) →
     (kind ≡ 107 → d ≡ other.Kill) → AsksFor packet c → command.Other d ≡ c
 other_asked packet kind rest (command.Other other.Query) d is others query detach kill (first, behind, which, asks) =
     let same : first ≡ kind = cc in ap command.Other (query (subst (λ (k : ℕ). (k ≡ 113) ⊎ (k ≡ 81)) same which))
 other_asked packet kind rest (command.Other other.Detach) d is others query detach kill asks = let first : kind ≡ 68 = cc in ap command.Other (detach first)
 other_asked packet kind rest (command.Other other.Kill) d is others query detach kill asks = let first : kind ≡ 107 = cc in ap command.Other (kill first)
 other_asked packet kind rest (command.Other other.Wrong) d is others query detach kill asks = absurd asks
-other_asked packet kind rest (command.Other other.Unknown) d is others query detach kill asks = absurd asks
+other_asked packet kind rest (command.Other other.Unknown) d is others query detach kill asks =
+    let o = opens packet kind rest (command.Other other.Unknown) is asks in absurd cc
 other_asked packet kind rest command.Change d is others query detach kill asks =
-    let o : (kind == 71 || kind == 80 || kind == 77 || kind == 88) ≡ true = opens packet kind rest command.Change is asks in
-    absurd (grind (arith, nat_tests))
-other_asked packet kind rest (command.Show shown) d is others query detach kill asks =
-    let o : (kind == 63 || kind == 103 || kind == 112 || kind == 109) ≡ true = opens packet kind rest (command.Show shown) is asks in
-    absurd (grind (arith, nat_tests))
-other_asked packet kind rest (command.Note noted) d is others query detach kill asks =
-    let o : (kind == 72 || kind == 84 || kind == 90 || kind == 122) ≡ true = opens packet kind rest (command.Note noted) is asks in
-    absurd (grind (arith, nat_tests))
-other_asked packet kind rest (command.Go w t) d is others query detach kill asks =
-    let o : (kind == 115 || kind == 99 || kind == 98 || kind == 118) ≡ true = opens packet kind rest (command.Go w t) is asks in
-    absurd (grind (arith, nat_tests))
-
--- and any other packet goes somewhere
-pub rest_asked : (packet : List ℕ) (kind : ℕ) (rest : List ℕ) (c d : Command) → packet ≡ kind ∷ rest →
-    (kind == 71 || kind == 80 || kind == 77 || kind == 88) ≡ false → (kind == 63 || kind == 103 || kind == 112 || kind == 109) ≡ false →
-    (kind == 72 || kind == 84 || kind == 90 || kind == 122) ≡ false → (kind == 113 || kind == 81 || kind == 68 || kind == 107) ≡ false →
-    ((w : Way) (t : Thread) → AsksToGo packet w t → d ≡ command.Go w t) → AsksFor packet c → d ≡ c
-rest_asked packet kind rest (command.Show shown) d is changes shows notes others goes asks =
-    let o = opens packet kind rest (command.Show shown) is asks in absurd cc
-rest_asked packet kind rest command.Change d is changes shows notes others goes asks =
     let o = opens packet kind rest command.Change is asks in absurd cc
-rest_asked packet kind rest (command.Note noted) d is changes shows notes others goes asks =
+other_asked packet kind rest (command.Show shown) d is others query detach kill asks =
+    let o = opens packet kind rest (command.Show shown) is asks in absurd cc
+other_asked packet kind rest (command.Note noted) d is others query detach kill asks =
     let o = opens packet kind rest (command.Note noted) is asks in absurd cc
-rest_asked packet kind rest (command.Go w t) d is changes shows notes others goes asks = goes w t asks
-rest_asked packet kind rest (command.Other another) d is changes shows notes others goes asks =
-    let o = opens packet kind rest (command.Other another) is asks in absurd cc
+other_asked packet kind rest (command.Go w t) d is others query detach kill asks =
+    let o = opens packet kind rest (command.Go w t) is asks in absurd cc
+
+-- what goes somewhere asks for that
+pub way_asked : (packet : List ℕ) (kind : ℕ) (rest : List ℕ) (c d : Command) → packet ≡ kind ∷ rest → kind_of kind ≡ kinds.Goes →
+    ((w : Way) (t : Thread) → AsksToGo packet w t → d ≡ command.Go w t) → AsksFor packet c → d ≡ c
+way_asked packet kind rest (command.Go w t) d is ways goes asks = goes w t asks
+way_asked packet kind rest (command.Show shown) d is ways goes asks =
+    let o = opens packet kind rest (command.Show shown) is asks in absurd cc
+way_asked packet kind rest command.Change d is ways goes asks =
+    let o = opens packet kind rest command.Change is asks in absurd cc
+way_asked packet kind rest (command.Note noted) d is ways goes asks =
+    let o = opens packet kind rest (command.Note noted) is asks in absurd cc
+way_asked packet kind rest (command.Other other.Query) d is ways goes asks =
+    let o = opens packet kind rest (command.Other other.Query) is asks in absurd cc
+way_asked packet kind rest (command.Other other.Detach) d is ways goes asks =
+    let o = opens packet kind rest (command.Other other.Detach) is asks in absurd cc
+way_asked packet kind rest (command.Other other.Kill) d is ways goes asks =
+    let o = opens packet kind rest (command.Other other.Kill) is asks in absurd cc
+way_asked packet kind rest (command.Other other.Unknown) d is ways goes asks =
+    let o = opens packet kind rest (command.Other other.Unknown) is asks in absurd cc
+way_asked packet kind rest (command.Other other.Wrong) d is ways goes asks = absurd asks
+
+-- and what is not known asks for nothing
+pub unknown_asked : (packet : List ℕ) (kind : ℕ) (rest : List ℕ) (c : Command) → packet ≡ kind ∷ rest → kind_of kind ≡ kinds.Nothing → AsksFor packet c →
+    command.Other other.Unknown ≡ c
+unknown_asked packet kind rest (command.Other other.Unknown) is unknown asks = refl
+unknown_asked packet kind rest (command.Show shown) is unknown asks =
+    let o = opens packet kind rest (command.Show shown) is asks in absurd cc
+unknown_asked packet kind rest command.Change is unknown asks =
+    let o = opens packet kind rest command.Change is asks in absurd cc
+unknown_asked packet kind rest (command.Note noted) is unknown asks =
+    let o = opens packet kind rest (command.Note noted) is asks in absurd cc
+unknown_asked packet kind rest (command.Go w t) is unknown asks =
+    let o = opens packet kind rest (command.Go w t) is asks in absurd cc
+unknown_asked packet kind rest (command.Other other.Query) is unknown asks =
+    let o = opens packet kind rest (command.Other other.Query) is asks in absurd cc
+unknown_asked packet kind rest (command.Other other.Detach) is unknown asks =
+    let o = opens packet kind rest (command.Other other.Detach) is asks in absurd cc
+unknown_asked packet kind rest (command.Other other.Kill) is unknown asks =
+    let o = opens packet kind rest (command.Other other.Kill) is asks in absurd cc
+unknown_asked packet kind rest (command.Other other.Wrong) is unknown asks = absurd asks
 
 -- ---- ways
 

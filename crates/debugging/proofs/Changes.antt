@@ -1,17 +1,16 @@
--- Kinds of packets.
-use Rattle.std.proofs.Common.{◌≡◌, ℕ, zero, suc, ◌==◌, ◌||◌, Bool, true, slice_index_or, Contains, refl, ◌<◌, subst, arith}
+-- Packets that would change the past.
+use Rattle.std.proofs.Common.{◌≡◌, ℕ, zero, suc, slice_index_or, Contains, refl, ◌<◌, subst, arith}
 use Rattle.std.specs.Prelude.{codes}
+use Rattle.debugging.specs.declared.commands.Kind.TheVariants.{Changes}
+use Rattle.debugging.specs.Commands.{kind_of}
 
--- `G`, `P`, `M` and `X` would change the past
-abbrev is_change : ℕ → Bool
-is_change kind = kind == 71 || kind == 80 || kind == 77 || kind == 88
+at_index : (first i : ℕ) → i < 4 → slice_index_or (codes "GPMX") i first ≡ first → kind_of first ≡ Changes
+at_index first zero h e = subst (λ (k : ℕ). kind_of k ≡ Changes) e refl
+at_index first (suc zero) h e = subst (λ (k : ℕ). kind_of k ≡ Changes) e refl
+at_index first (suc (suc zero)) h e = subst (λ (k : ℕ). kind_of k ≡ Changes) e refl
+at_index first (suc (suc (suc zero))) h e = subst (λ (k : ℕ). kind_of k ≡ Changes) e refl
+at_index first (suc (suc (suc (suc i)))) h e = absurd (omega arith)
 
-at_index : (kind i : ℕ) → i < 4 → slice_index_or (codes "GPMX") i kind ≡ kind → is_change kind ≡ true
-at_index kind zero h e = subst (λ (k : ℕ). is_change k ≡ true) e refl
-at_index kind (suc zero) h e = subst (λ (k : ℕ). is_change k ≡ true) e refl
-at_index kind (suc (suc zero)) h e = subst (λ (k : ℕ). is_change k ≡ true) e refl
-at_index kind (suc (suc (suc zero))) h e = subst (λ (k : ℕ). is_change k ≡ true) e refl
-at_index kind (suc (suc (suc (suc i)))) h e = absurd (omega arith)
-
-pub changing : (kind : ℕ) → Contains (codes "GPMX") kind → (kind == 71 || kind == 80 || kind == 77 || kind == 88) ≡ true
-changing kind c = at_index kind c.0 c.1 c.2
+-- they begin with one of these bytes
+pub changing : (first : ℕ) → Contains (codes "GPMX") first → kind_of first ≡ Changes
+changing first c = at_index first c.0 c.1 c.2

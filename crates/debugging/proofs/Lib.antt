@@ -8,3 +8,4 @@ pub mod Going
 pub mod Sending
 pub mod Telling
 pub mod Showing
+pub mod Reporting

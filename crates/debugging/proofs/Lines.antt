@@ -1,6 +1,7 @@
 -- A line that is led on.
 use Rattle.std.proofs.Common.{◌≡◌, ℕ, ◌<◌, ◌≤◌, ◌+◌, Bool, true, false, refl, ap, subst, sym, ◌∙◌}
-use Rattle.plan_lines.specs.Line.{LineView, HasGoneOn, IsAtEnd, steps_of}
+use Rattle.plan_lines.specs.Line.{LineView, GetsStuck, HasGoneOn, IsAtEnd, steps_of}
+use Rattle.hart_replay.specs.declared.fault.ReplayFault.{ReplayFault}
 use Rattle.debugging.specs.Sessions.{IsOfLine, IsFirstWith, IsBeforeStep}
 
 pub led_on : (b c : LineView) → c ≡ record b { stands = c.stands } → IsOfLine b c
@@ -36,3 +37,7 @@ stepped_on b c false on at = stays b c (at refl).0
 -- it has the moments that it had
 pub within : (b c : LineView) (moment : ℕ) → IsOfLine b c → moment ≤ steps_of b.legs → moment ≤ steps_of c.legs
 within b c moment same few = rw same.legs few
+
+-- a line that gets stuck once it is led on got stuck before
+pub stuck_before : (b c : LineView) (f : ReplayFault) → c ≡ record b { stands = c.stands } → GetsStuck c f → GetsStuck b f
+stuck_before b c f e stuck = let same : GetsStuck (record b { stands = c.stands }) f = subst (λ (t : LineView). GetsStuck t f) e stuck in same

@@ -8,6 +8,7 @@ pub mod Commands
 pub mod Ways
 pub mod Stops
 pub mod Queries
+pub mod Monitor
 pub mod Answers
 pub mod Conversations
 pub mod machinery

@@ -12,7 +12,7 @@ ghost use Rattle.debugging.specs.declared.commands.Command.TheVariants as Comman
 ghost use Rattle.debugging.specs.declared.commands.Other.TheVariants as Other;
 ghost use Rattle.debugging.specs.declared.commands.Show.TheVariants as Show;
 ghost use Rattle.debugging.specs.declared.commands.Command.{Command as CommandOf};
-ghost use Rattle.debugging.specs.Commands.{AsksFor};
+ghost use Rattle.debugging.specs.Commands.{kind_of, AsksFor};
 ghost use Rattle.debugging.specs.Points.{IsPoint};
 ghost use Rattle.debugging.specs.Asked.{IsHex, IsRange, IsThread, IsFirstAction, IsAction, AsksForAction, AsksToGo};
 
@@ -88,6 +88,18 @@ pub(crate) enum Command {
     Go(Way, Thread),
     /// Anything else.
     Other(Other),
+}
+
+/// Kinds of packets, by their first bytes.
+#[derive(Clone, Copy)]
+enum Kind {
+    Shows,
+    Changes,
+    Notes,
+    Asks,
+    Goes,
+    /// None that is known.
+    Nothing,
 }
 
 /// What an action of `vCont` of this kind asks for, of any thread or of this one.
@@ -283,7 +295,7 @@ fn read_other(kind: u8) -> Other
     }
 }
 
-/// Of a packet of no form that says what it asks for.
+/// Of a packet that names no way: a query, or one that would go from another address.
 fn read_rest(packet: &[u8]) -> Command {
     match packet {
         [b'v', ..] => Command::Other(Other::Query),
@@ -316,24 +328,48 @@ fn read_show(kind: u8, rest: &[u8]) -> Command
     }
 }
 
+/// Whether a packet of this kind goes somewhere.
+fn is_way(kind: u8) -> bool
+    ensures { result ≡ (kind == 115 || kind == 99 || kind == 98 || kind == 118) }
+{
+    kind == b's' || kind == b'c' || kind == b'b' || kind == b'v'
+}
+
+/// The kind of a packet with this first byte.
+fn kind_of(first: u8) -> Kind
+    ensures { result ≡ kind_of first }
+{
+    if is_show(first) {
+        return Kind::Shows;
+    }
+    if is_change(first) {
+        return Kind::Changes;
+    }
+    if is_note(first) {
+        return Kind::Notes;
+    }
+    if is_other(first) {
+        return Kind::Asks;
+    }
+    if is_way(first) {
+        return Kind::Goes;
+    }
+    Kind::Nothing
+}
+
 /// What the packet asks for.
 pub(crate) fn read_command(packet: &[u8]) -> Command
     ensures { (command : CommandOf) → AsksFor packet.now command → result ≡ command }
 {
-    let Some((kind, rest)) = first_byte(packet) else {
+    let Some((first, rest)) = first_byte(packet) else {
         return Command::Other(Other::Unknown);
     };
-    if is_change(kind) {
-        return Command::Change;
+    match kind_of(first) {
+        Kind::Shows => read_show(first, rest),
+        Kind::Changes => Command::Change,
+        Kind::Notes => read_note(first, rest),
+        Kind::Asks => Command::Other(read_other(first)),
+        Kind::Goes => read_way(packet),
+        Kind::Nothing => Command::Other(Other::Unknown),
     }
-    if is_show(kind) {
-        return read_show(kind, rest);
-    }
-    if is_note(kind) {
-        return read_note(kind, rest);
-    }
-    if is_other(kind) {
-        return Command::Other(read_other(kind));
-    }
-    read_way(packet)
 }

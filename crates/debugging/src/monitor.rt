@@ -1,11 +1,13 @@
 //! Commands of gdb's `monitor`.
 
-ghost use Rattle.std.specs.Prelude.{◌≡◌, ◌≤◌};
+ghost use Rattle.std.specs.Prelude.{◌≡◌, ℕ, ◌≤◌, ◌<◌, ◌++◌, Some, OnOk, codes, length};
 ghost use Rattle.ft_types.specs.declared.names.TheConstants.{HART_LIMIT};
 ghost use Rattle.plan_lines.specs.Line.{steps_of};
+ghost use Rattle.debugging.specs.Monitor.{step_text, writer_text, moment_text, counts_text, IsPutBehind, TellsPlace, TellsWriter, HasStayed, HasGoneTo, IsPlace, IsAddress, IsNamed, AsksToTell, Tells, Told, Who};
+ghost use Rattle.debugging.specs.Notes.{harts_of};
 ghost use Rattle.debugging.specs.Sessions.{IsOfLine};
 
-use crate::numbers::{cut, read_hex};
+use crate::numbers::{cut, is, read_hex};
 use crate::queries::{hex_text, put_hart};
 use crate::runs::{count_of, hart_at, last_touch};
 use crate::session::Session;
@@ -32,25 +34,44 @@ struct Touch {
     writes: bool,
 }
 
-/// The term, the moment, how many there are, and each hart's count.
-fn put_place(text: &mut Vec<u8>, line: &Timeline) -> Result<(), Memory> {
-    text.extend_from_slice(b"term ")?;
-    put_number(text, u64::from(line.term()))?;
-    text.extend_from_slice(b" moment ")?;
-    put_number(text, line.now())?;
-    text.extend_from_slice(b" of ")?;
-    put_number(text, line.last())?;
-    text.extend_from_slice(b" counts")?;
+/// Puts each hart's count.
+fn put_counts(text: &mut Vec<u8>, line: &Timeline) -> Result<(), Memory>
+    ensures { OnOk result (text.new.items ≡ text.old.items ++ counts_text line.now.stands.machine (length line.now.stands.machine.harts)) }
+{
     for number in 0..line.harts() {
         text.push(b' ')?;
         put_number(text, count_of(line, Hart::new(number)))?;
     }
+    Ok(())
+}
+
+/// Puts the moment, and how many there are.
+fn put_moment(text: &mut Vec<u8>, line: &Timeline) -> Result<(), Memory>
+    ensures { OnOk result (text.new.items ≡ text.old.items ++ moment_text line.now) }
+{
+    text.extend_from_slice(b" moment ")?;
+    put_number(text, line.now())?;
+    text.extend_from_slice(b" of ")?;
+    put_number(text, line.last())
+}
+
+/// Puts the term, the moment, how many there are, and each hart's count.
+fn put_place(text: &mut Vec<u8>, line: &Timeline) -> Result<(), Memory>
+    ensures { OnOk result (IsPutBehind text.old.items text.new.items (TellsPlace line.now)) }
+{
+    text.extend_from_slice(b"term ")?;
+    put_number(text, u64::from(line.term()))?;
+    put_moment(text, line)?;
+    text.extend_from_slice(b" counts")?;
+    put_counts(text, line)?;
     text.push(b'\n')?;
     Ok(())
 }
 
 /// Puts a step, by its hart and count.
-fn put_step(text: &mut Vec<u8>, verb: &[u8], hart: Hart, count: Count) -> Result<(), Memory> {
+fn put_step(text: &mut Vec<u8>, verb: &[u8], hart: Hart, count: Count) -> Result<(), Memory>
+    ensures { OnOk result (text.new.items ≡ text.old.items ++ step_text verb.now hart count) }
+{
     text.extend_from_slice(verb)?;
     text.extend_from_slice(b" hart ")?;
     put_number(text, u64::from(hart.number()))?;
@@ -63,6 +84,7 @@ fn put_step(text: &mut Vec<u8>, verb: &[u8], hart: Hart, count: Count) -> Result
 /// The hart and the number that these words are.
 fn read_place(words: &[u8], harts: u8) -> Option<(Hart, u64)>
     requires { harts ≤ HART_LIMIT }
+    ensures { (hart number : ℕ) → IsPlace words.now hart number → hart < harts → result ≡ Some (hart, number) }
 {
     let (hart, number) = cut(words, b' ');
     let hart = read_number(hart)?;
@@ -73,12 +95,27 @@ fn read_place(words: &[u8], harts: u8) -> Option<(Hart, u64)>
 }
 
 /// The word at the address that this text is.
-fn read_watched(text: &[u8]) -> Option<Bytes> {
-    let digits = text.strip_prefix(b"0x").unwrap_or(text);
+fn read_watched(text: &[u8]) -> Option<Bytes>
+    ensures { (address : ℕ) → IsAddress text.now address → result ≡ Some (record { first = address; length = 4 }) }
+{
+    let digits = match text.strip_prefix(b"0x") {
+        Some(digits) => digits,
+        None => text,
+    };
     Some(Bytes {
         first: read_hex(digits)?,
         length: 4,
     })
+}
+
+/// Puts who wrote a word last.
+fn put_writer(text: &mut Vec<u8>, found: Option<(Hart, Count)>) -> Result<(), Memory>
+    ensures { OnOk result (text.new.items ≡ text.old.items ++ writer_text found) }
+{
+    match found {
+        Some((hart, count)) => put_step(text, b"written by", hart, count),
+        None => put(text, b"not written\n"),
+    }
 }
 
 /// The step at which the hart puts out the output with this number: the line stands anywhere then.
@@ -173,6 +210,8 @@ impl Session {
     fn stay(&mut self, text: &mut Vec<u8>, now: u64) -> Result<(), ReplayFault>
         requires { now ≤ steps_of self.old.line.legs }
         ensures line { IsOfLine self.old.line self.new.line }
+        ensures there { OnOk result ((self.new.line.stands.moment ≡ now) × (self.new.shown ≡ self.old.shown)) }
+        ensures told { OnOk result (text.new.items ≡ text.old.items ++ codes "no such step\n") }
     {
         self.line.go_to(now)?;
         Ok(put(text, b"no such step\n")?)
@@ -189,6 +228,7 @@ impl Session {
     ) -> Result<(), ReplayFault>
         requires { now ≤ steps_of self.old.line.legs }
         ensures line { IsOfLine self.old.line self.new.line }
+        ensures went { OnOk result (IsPutBehind text.old.items text.new.items (HasGoneTo hart count now self.old self.new)) }
     {
         let Some(count) = count else {
             return self.stay(text, now);
@@ -204,14 +244,13 @@ impl Session {
     #[tactic(auto, using(crate::proofs::Lines::led_on, crate::proofs::Lines::stays, crate::proofs::Lines::goes_on, crate::proofs::Lines::within))]
     fn tell_writer(&mut self, text: &mut Vec<u8>, word: Bytes) -> Result<(), ReplayFault>
         ensures line { IsOfLine self.old.line self.new.line }
+        ensures stays { OnOk result (HasStayed self.old self.new) }
+        ensures told { OnOk result (IsPutBehind text.old.items text.new.items (TellsWriter self.old.line word)) }
     {
         let now = self.line.now();
         let found = last_touch(&mut self.line, Point::Watch(Watched::Write, word))?;
         self.line.go_to(now)?;
-        match found {
-            Some((hart, count)) => Ok(put_step(text, b"written by", hart, count)?),
-            None => Ok(put(text, b"not written\n")?),
-        }
+        Ok(put_writer(text, found)?)
     }
 
     /// Says which two steps of two harts touched the word last, of which one wrote it.
@@ -229,29 +268,80 @@ impl Session {
         Ok(put_touch(text, later)?)
     }
 
-    /// Does what a command asks that has words behind its name.
-    fn do_with(&mut self, text: &mut Vec<u8>, name: &[u8], words: &[u8]) -> Result<(), ReplayFault>
+    /// `goto H N`
+    fn go_to_place(&mut self, text: &mut Vec<u8>, words: &[u8]) -> Result<(), ReplayFault>
+        ensures line { IsOfLine self.old.line self.new.line }
+        ensures went { OnOk result ((hart count : ℕ) → hart < harts_of self.old → IsPlace words.now hart count →
+            IsPutBehind text.old.items text.new.items (HasGoneTo hart (Some count) self.old.line.stands.moment self.old self.new)) }
+    {
+        let now = self.line.now();
+        match read_place(words, self.line.harts()) {
+            Some((hart, count)) => self.go_to_step(text, hart, Some(count), now),
+            None => Ok(put(text, HELP)?),
+        }
+    }
+
+    /// `output H K`
+    fn go_to_output(&mut self, text: &mut Vec<u8>, words: &[u8]) -> Result<(), ReplayFault>
         ensures line { IsOfLine self.old.line self.new.line }
     {
         let now = self.line.now();
-        match (
-            name,
-            read_place(words, self.line.harts()),
-            read_watched(words),
-        ) {
-            (b"goto", Some((hart, count)), _) => self.go_to_step(text, hart, Some(count), now),
-            (b"output", Some((hart, number)), _) => {
-                let count = output_step(&mut self.line, hart, number)?;
-                self.go_to_step(text, hart, count, now)
-            }
-            (b"input", Some((hart, number)), _) => {
-                let count = input_step(self.line.plan().legs(), hart, number);
-                self.go_to_step(text, hart, count, now)
-            }
-            (b"who", _, Some(word)) => self.tell_writer(text, word),
-            (b"race", _, Some(word)) => self.tell_race(text, word),
+        let Some((hart, number)) = read_place(words, self.line.harts()) else {
+            return Ok(put(text, HELP)?);
+        };
+        let count = output_step(&mut self.line, hart, number)?;
+        self.go_to_step(text, hart, count, now)
+    }
+
+    /// `input H K`
+    fn go_to_input(&mut self, text: &mut Vec<u8>, words: &[u8]) -> Result<(), ReplayFault>
+        ensures line { IsOfLine self.old.line self.new.line }
+    {
+        let now = self.line.now();
+        let Some((hart, number)) = read_place(words, self.line.harts()) else {
+            return Ok(put(text, HELP)?);
+        };
+        let count = input_step(self.line.plan().legs(), hart, number);
+        self.go_to_step(text, hart, count, now)
+    }
+
+    /// `who ADDRESS`
+    fn tell_who(&mut self, text: &mut Vec<u8>, words: &[u8]) -> Result<(), ReplayFault>
+        ensures line { IsOfLine self.old.line self.new.line }
+        ensures told { OnOk result ((address : ℕ) → IsAddress words.now address →
+            IsPutBehind text.old.items text.new.items (Tells (Who address) self.old self.new)) }
+    {
+        match read_watched(words) {
+            Some(word) => self.tell_writer(text, word),
+            None => Ok(put(text, HELP)?),
+        }
+    }
+
+    /// Does what another command asks that has words behind its name.
+    fn do_other(&mut self, text: &mut Vec<u8>, name: &[u8], words: &[u8]) -> Result<(), ReplayFault>
+        ensures line { IsOfLine self.old.line self.new.line }
+    {
+        match (name, read_watched(words)) {
+            (b"output", _) => self.go_to_output(text, words),
+            (b"input", _) => self.go_to_input(text, words),
+            (b"race", Some(word)) => self.tell_race(text, word),
             _ => Ok(put(text, HELP)?),
         }
+    }
+
+    /// Does what a command asks that has words behind its name.
+    fn do_with(&mut self, text: &mut Vec<u8>, name: &[u8], words: &[u8]) -> Result<(), ReplayFault>
+        ensures line { IsOfLine self.old.line self.new.line }
+        ensures told { OnOk result ((told : Told) → IsNamed (harts_of self.old) name.now words.now told →
+            IsPutBehind text.old.items text.new.items (Tells told self.old self.new)) }
+    {
+        if is(name, b"goto") {
+            return self.go_to_place(text, words);
+        }
+        if is(name, b"who") {
+            return self.tell_who(text, words);
+        }
+        self.do_other(text, name, words)
     }
 
     /// What gdb prints for a command, whose text these digits are.
@@ -284,12 +374,16 @@ impl Session {
     #[tactic(auto, using(crate::proofs::Lines::led_on, crate::proofs::Lines::stays, crate::proofs::Lines::goes_on))]
     fn tell_of(&mut self, text: &mut Vec<u8>, command: &[u8]) -> Result<(), ReplayFault>
         ensures line { IsOfLine self.old.line self.new.line }
+        ensures told { OnOk result ((told : Told) → AsksToTell (harts_of self.old) command.now told →
+            IsPutBehind text.old.items text.new.items (Tells told self.old self.new)) }
     {
         let (name, words) = cut(command, b' ');
-        match name {
-            b"where" => Ok(put_place(text, &self.line)?),
-            b"edges" => Ok(put_edges(text, &self.line, self.shown)?),
-            _ => self.do_with(text, name, words),
+        if is(name, b"where") {
+            return Ok(put_place(text, &self.line)?);
         }
+        if is(name, b"edges") {
+            return Ok(put_edges(text, &self.line, self.shown)?);
+        }
+        self.do_with(text, name, words)
     }
 }

@@ -1,7 +1,10 @@
 //! Ways through a timeline.
 
-ghost use Rattle.std.specs.Prelude.{◌≡◌, ◌<◌, ◌≤◌, IfSome, IfNone, IfOk, Some, length, slice_get};
+ghost use Rattle.std.specs.Prelude.{◌≡◌, ◌≢◌, ◌<◌, ◌≤◌, IfSome, IfNone, IfOk, IfErr, Some, length, slice_get};
 ghost use Rattle.hart_lease.specs.Runs.{counts_of};
+ghost use Rattle.debugging.specs.Monitor.{IsLastTouch};
+ghost use Rattle.plan_lines.specs.Line.{GetsStuck};
+ghost use Rattle.hart_replay.specs.declared.fault.ReplayFault.TheVariants as Faults;
 ghost use Rattle.debugging.specs.Sessions.{IsOfLine};
 ghost use Rattle.debugging.specs.Ways.{IsNextOr, HasStepped, HasSteppedBack, HasContinued, HasContinuedBack, Goes, arrival_at, reason_of_stop, watching_stop};
 
@@ -57,10 +60,11 @@ fn arrived(hart: Hart, reason: Reason) -> Arrival
 }
 
 /// On to the first moment at which the hart has one step more.
-#[tactic(auto, using(crate::proofs::Lines::led_on, crate::proofs::Lines::stays, crate::proofs::Lines::goes_on))]
+#[tactic(auto, using(crate::proofs::Lines::led_on, crate::proofs::Lines::stays, crate::proofs::Lines::goes_on, crate::proofs::Lines::stuck_before))]
 fn step(line: &mut Timeline, hart: Hart) -> Result<Arrival, ReplayFault>
     ensures line { IsOfLine line.old line.new }
     ensures went { IfOk result (HasStepped line.old line.new hart) }
+    ensures stuck { IfErr result (λ f. f ≢ Faults.Memory → GetsStuck line.old f) }
 {
     let count = count_of(line, hart);
     let is_led = line.go_to_count(hart, count + 1)?;
@@ -71,10 +75,11 @@ fn step(line: &mut Timeline, hart: Hart) -> Result<Arrival, ReplayFault>
 }
 
 /// Back to where the hart's last step comes next.
-#[tactic(auto, using(crate::proofs::Lines::led_on, crate::proofs::Lines::stays, crate::proofs::Lines::goes_on))]
+#[tactic(auto, using(crate::proofs::Lines::led_on, crate::proofs::Lines::stays, crate::proofs::Lines::goes_on, crate::proofs::Lines::stuck_before))]
 fn step_back(line: &mut Timeline, hart: Hart) -> Result<Arrival, ReplayFault>
     ensures line { IsOfLine line.old line.new }
     ensures went { IfOk result (HasSteppedBack line.old line.new hart) }
+    ensures stuck { IfErr result (λ f. f ≢ Faults.Memory → GetsStuck line.old f) }
 {
     let count = count_of(line, hart);
     if count == 0 {
@@ -120,10 +125,11 @@ fn watching(points: &[Point], stop: Stop) -> u64
 }
 
 /// On to a point or to the end. A step that is watched comes next then: gdb takes it before it looks at the word.
-#[tactic(auto, using(crate::proofs::Lines::led_on, crate::proofs::Lines::stays, crate::proofs::Lines::goes_on))]
+#[tactic(auto, using(crate::proofs::Lines::led_on, crate::proofs::Lines::stays, crate::proofs::Lines::goes_on, crate::proofs::Lines::stuck_before))]
 fn go_on(line: &mut Timeline, points: &[Point], hart: Hart) -> Result<Arrival, ReplayFault>
     ensures line { IsOfLine line.old line.new }
     ensures went { IfOk result (HasContinued points.now hart line.old line.new) }
+    ensures stuck { IfErr result (λ f. f ≢ Faults.Memory → GetsStuck line.old f) }
 {
     let stop = line.until(points)?;
     let there = line.now();
@@ -134,10 +140,11 @@ fn go_on(line: &mut Timeline, points: &[Point], hart: Hart) -> Result<Arrival, R
 }
 
 /// Back to a point or to the beginning. A step that is watched was the last one then: gdb takes it back before it looks at the word.
-#[tactic(auto, using(crate::proofs::Lines::led_on, crate::proofs::Lines::stays, crate::proofs::Lines::goes_on))]
+#[tactic(auto, using(crate::proofs::Lines::led_on, crate::proofs::Lines::stays, crate::proofs::Lines::goes_on, crate::proofs::Lines::stuck_before))]
 fn go_back(line: &mut Timeline, points: &[Point], hart: Hart) -> Result<Arrival, ReplayFault>
     ensures line { IsOfLine line.old line.new }
     ensures went { IfOk result (HasContinuedBack points.now hart line.old line.new) }
+    ensures stuck { IfErr result (λ f. f ≢ Faults.Memory → GetsStuck line.old f) }
 {
     // proof: the line has this moment.
     let _from = line.now();
@@ -158,6 +165,7 @@ pub(crate) fn go(
 ) -> Result<Arrival, ReplayFault>
     ensures line { IsOfLine line.old line.new }
     ensures went { IfOk result (Goes way points.now hart line.old line.new) }
+    ensures stuck { IfErr result (λ f. f ≢ Faults.Memory → GetsStuck line.old f) }
 {
     match way {
         Way::Step => step(line, hart),
@@ -167,19 +175,20 @@ pub(crate) fn go(
     }
 }
 
-/// The step that touched what the point watches last, by its hart and count. The line stands before it then.
+/// The step that touched what the point watches last, by its hart and count. The line stands before it then, or at its beginning, where there is none.
 #[tactic(auto, using(crate::proofs::Lines::led_on, crate::proofs::Lines::stays, crate::proofs::Lines::goes_on))]
 pub(crate) fn last_touch(
     line: &mut Timeline,
     point: Point,
 ) -> Result<Option<(Hart, Count)>, ReplayFault>
     ensures line { IsOfLine line.old line.new }
+    ensures last { IfOk result (IsLastTouch point line.old line.new) }
 {
-    let Stop::At(_) = line.back_until(&[point])? else {
-        return Ok(None);
-    };
-    match line.next() {
-        Some(hart) => Ok(Some((hart, count_of(line, hart)))),
-        None => Ok(None),
+    match line.back_until(&[point])? {
+        Stop::At(_) => {
+            let hart = next_hart(line, Hart::new(0));
+            Ok(Some((hart, count_of(line, hart))))
+        }
+        Stop::Begin | Stop::End => Ok(None),
     }
 }

@@ -1,7 +1,9 @@
 //! A session: what is asked, and what is answered.
 
-ghost use Rattle.std.specs.Prelude.{◌≡◌, ◌≤◌, ◌⊎◌, ℕ, Bool, true, false, List, IfOk, IfSome, IfNone, None, Some, codes};
+ghost use Rattle.std.specs.Prelude.{◌≡◌, ◌≢◌, ◌≤◌, ◌⊎◌, ℕ, Bool, true, false, List, IfOk, IfErr, IfSome, IfNone, None, Some, codes};
 ghost use Rattle.debugging.specs.declared.commands.Command.{Command as CommandOf};
+ghost use Rattle.plan_lines.specs.Line.{GetsStuck};
+ghost use Rattle.hart_replay.specs.declared.fault.ReplayFault.TheVariants as Faults;
 ghost use Rattle.debugging.specs.declared.commands.Command.TheVariants as Command;
 ghost use Rattle.debugging.specs.declared.commands.Show.TheVariants as Show;
 ghost use Rattle.debugging.specs.Asked.{IsOfHart, IsOfNone};
@@ -10,7 +12,7 @@ ghost use Rattle.debugging.specs.Queries.{AsksForText};
 ghost use Rattle.debugging.specs.Notes.{HasChosen, HasNoted, harts_of, is_any, told};
 ghost use Rattle.debugging.specs.Sessions.{IsShown, IsOfLine, session_at};
 ghost use Rattle.debugging.specs.Ways.{IsLed, HasGone};
-ghost use Rattle.debugging.specs.Answers.{Says, IsShowing, Answers};
+ghost use Rattle.debugging.specs.Answers.{Says, IsShowing, IsStuck, Answers};
 
 use crate::commands::{Command, Note, Other, Show, Way, read_command};
 use crate::memory::memory_text;
@@ -73,7 +75,8 @@ fn told(alloc: Global, is_right: bool) -> Result<Vec<u8>, Memory>
 
 /// That the log leads nowhere, where memory is not what lacks.
 fn nowhere(alloc: Global, fault: ReplayFault) -> Result<Vec<u8>, Memory>
-    ensures { IfOk result (λ text. text.items ≡ codes "E03") }
+    ensures said { IfOk result (λ text. text.items ≡ codes "E03") }
+    ensures stuck { IfOk result (λ text. fault ≢ Faults.Memory) }
 {
     match fault {
         ReplayFault::Memory => Err(Memory),
@@ -164,6 +167,7 @@ impl Session {
     fn go(&mut self, alloc: Global, way: Way, thread: Thread) -> Result<Vec<u8>, ReplayFault>
         ensures line { IsOfLine self.old.line self.new.line }
         ensures went { IfOk result (λ text. (hart : ℕ) → IsLed self.old thread hart → HasGone self.old self.new way hart text.items) }
+        ensures stuck { IfErr result (λ f. f ≢ Faults.Memory → GetsStuck self.old.line f) }
     {
         let hart = self.led_by(thread);
         let arrival = go(&mut self.line, &self.points, way, hart)?;
@@ -176,7 +180,7 @@ impl Session {
     fn lead(&mut self, alloc: Global, way: Way, thread: Thread) -> Result<Answer, Memory>
         ensures line { IsOfLine self.old.line self.new.line }
         ensures went { IfOk result (λ a. (hart : ℕ) → IsLed self.old thread hart →
-            Says (codes "E03") a ⊎ ((text : List ℕ) × HasGone self.old self.new way hart text × Says text a)) }
+            IsStuck self.old a ⊎ ((text : List ℕ) × HasGone self.old self.new way hart text × Says text a)) }
     {
         match self.go(alloc, way, thread) {
             Ok(text) => Ok(Answer::Says(text)),
@@ -296,7 +300,7 @@ impl Session {
         // What a packet asks for is answered as it must be.
         ensures answers { (command : CommandOf) → AsksFor packet.now command → IfOk result (Answers packet.now command self.old self.new) }
 
-        // What is only shown, would be another past, or ends the session changes nothing.
+        // What is only shown, would be another past, ends the session or is not known changes nothing.
         ensures still { (command : CommandOf) → AsksFor packet.now command → IsStill command → self.new ≡ self.old }
 
         // It stands on the same line, whatever comes.

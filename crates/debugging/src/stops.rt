@@ -1,6 +1,6 @@
 //! Why a session stands where it does.
 
-ghost use Rattle.std.specs.Prelude.{◌≡◌, ◌++◌, IfOk, OnOk};
+ghost use Rattle.std.specs.Prelude.{◌≡◌, ◌++◌, IfOk, OnOk, decimal};
 ghost use Rattle.debugging.specs.Stops.{thread_text, point_text, reason_text, stop_text};
 
 use crate::points::watched_name;
@@ -22,13 +22,17 @@ pub(crate) enum Reason {
 }
 
 /// Puts bytes.
-pub(crate) fn put(text: &mut Vec<u8>, bytes: &[u8]) -> Result<(), Memory> {
+pub(crate) fn put(text: &mut Vec<u8>, bytes: &[u8]) -> Result<(), Memory>
+    ensures { OnOk result (text.new.items ≡ text.old.items ++ bytes.now) }
+{
     text.extend_from_slice(bytes)?;
     Ok(())
 }
 
 /// Puts a number.
-pub(crate) fn put_number(text: &mut Vec<u8>, number: u64) -> Result<(), Memory> {
+pub(crate) fn put_number(text: &mut Vec<u8>, number: u64) -> Result<(), Memory>
+    ensures { OnOk result (text.new.items ≡ text.old.items ++ decimal number) }
+{
     let mut digits = LineBuffer::new();
     digits.push_number(number);
     text.extend_from_slice(digits.as_slice())?;

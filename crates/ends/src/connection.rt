@@ -2,6 +2,7 @@
 
 ghost use Rattle.std.specs.Prelude.{◌≡◌, ◌<◌, ◌↔◌, true};
 
+use crate::faults::Why;
 use crossbeam_channel::{SendError, Sender, TrySendError};
 use ft_types::Memory;
 use std::alloc::Global;
@@ -63,7 +64,7 @@ pub(crate) enum End {
     /// All is written.
     Done,
     /// Writing failed.
-    Failed,
+    Failed(Why),
     /// A growth was refused.
     Memory,
 }
@@ -88,7 +89,7 @@ fn write(file: &mut File, bytes: &[u8]) -> Result<(), End> {
     match file.write_all(bytes) {
         Ok(()) => Ok(()),
         Err(error) if error.kind() == io::ErrorKind::BrokenPipe => Err(End::Left),
-        Err(_) => Err(End::Failed),
+        Err(error) => Err(End::Failed(Why::of(&error))),
     }
 }
 

@@ -1,6 +1,9 @@
 //! What can go wrong with a process, and the line that says so.
 
-ghost use Rattle.std.specs.Prelude.{◌≡◌, ◌≢◌};
+ghost use Rattle.std.specs.Prelude.{◌≡◌, ◌≢◌, ⊥};
+ghost use Rattle.ends.specs.declared.faults.NamedFile.{NamedFile as file_of_specs};
+ghost use Rattle.ends.specs.declared.faults.Fault.TheVariants.{File as OfFile};
+ghost use Rattle.ends.specs.declared.faults.Why.TheVariants.{Unknown};
 
 use crate::files::write_in_line;
 use ft_types::{Memory, Term};
@@ -28,6 +31,27 @@ pub enum NamedFile {
     Input(usize),
     /// The output with this number, from 0 on.
     Output(usize),
+    /// The file in which the process says how it stands.
+    Status,
+}
+
+/// Why a file failed.
+#[derive(Clone, Copy)]
+pub enum Why {
+    /// Nobody knows.
+    Unknown,
+    /// The system's number of what was wrong.
+    Number(i32),
+}
+
+impl Why {
+    /// What an error says of it.
+    pub fn of(error: &io::Error) -> Why {
+        match error.raw_os_error() {
+            Some(number) => Why::Number(number),
+            None => Why::Unknown,
+        }
+    }
 }
 
 /// Where frames are.
@@ -120,7 +144,7 @@ pub enum Fault {
     /// The words have no form that there is.
     Usage,
     /// A file can't be opened, made, read, written, removed or brought to disk.
-    File(NamedFile),
+    File(NamedFile, Why),
     /// The line of the image, from 1, that is at fault.
     ImageLine(u64),
     /// The number of what else is wrong with the image.
@@ -184,7 +208,7 @@ impl Fault {
     fn words(&self) -> &'static str {
         match self {
             Fault::Usage => "usage",
-            Fault::File(_) => "file",
+            Fault::File(..) => "file",
             Fault::ImageLine(_) => "image 1 line",
             Fault::Image(_) => "image",
             Fault::Locked => "log locked",
@@ -223,6 +247,19 @@ impl Fault {
     }
 }
 
+impl Fault {
+    /// The same fault, and why, where it is of a file and nobody knows that yet.
+    pub fn because(self, why: Why) -> Fault
+        ensures other { ((file : file_of_specs) → self ≡ OfFile file Unknown → ⊥) → result ≡ self }
+        ensures file { (file : file_of_specs) → self ≡ OfFile file Unknown → result ≡ OfFile file why }
+    {
+        match self {
+            Fault::File(file, Why::Unknown) => Fault::File(file, why),
+            fault => fault,
+        }
+    }
+}
+
 impl From<Memory> for Fault {
     fn from(_e: Memory) -> Fault {
         Fault::Memory
@@ -245,7 +282,7 @@ impl<T: Drop> From<AllocFailed<T>> for Fault {
 pub fn file_fault(error: &io::Error, file: NamedFile) -> Fault {
     match error.kind() {
         io::ErrorKind::OutOfMemory => Fault::Memory,
-        _ => Fault::File(file),
+        _ => Fault::File(file, Why::of(error)),
     }
 }
 
@@ -280,6 +317,13 @@ fn write_name<W: fmt::Write>(file: NamedFile, name: &str, f: &mut Formatter<W>) 
     }
 }
 
+fn write_why<W: fmt::Write>(why: Why, f: &mut Formatter<W>) -> fmt::Result {
+    match why {
+        Why::Number(number) => write!(f, ": {}", io::Error::from_raw_os_error(number)),
+        Why::Unknown => Ok(()),
+    }
+}
+
 fn write_frames_fault<W: fmt::Write>(fault: FramesFault, f: &mut Formatter<W>) -> fmt::Result {
     f.write_str(fault.words())?;
     write_number(fault.number(), f)
@@ -290,7 +334,10 @@ impl Display for Told<'_> {
         f.write_str(self.fault.words())?;
         write_number(self.fault.number(), f)?;
         match *self.fault {
-            Fault::File(file) => write_name(file, self.name, f),
+            Fault::File(file, why) => {
+                write_name(file, self.name, f)?;
+                write_why(why, f)
+            }
             Fault::Frames(_, fault) => write_frames_fault(fault, f),
             _ => Ok(()),
         }

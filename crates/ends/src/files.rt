@@ -5,7 +5,7 @@ ghost use Rattle.std.specs.Prelude.{◌≡◌, IfOk};
 use crate::host::Paths;
 use std::fmt::Formatter;
 use std::fs::File;
-use std::io::Read;
+use std::io::{Read, Write};
 use std::os::unix::fs::FileTypeExt;
 use std::path::Path;
 use std::result::Result;
@@ -41,6 +41,14 @@ pub fn remove_file<'a, R: Paths + AllocGlobal>(rt: &R, name: &'a str) -> io::Res
     rt.remove(name)?;
     sync_folder(rt, name)?;
     Ok(RemovedFile { name, is_gone: () })
+}
+
+/// Replaces what a file has: whoever reads it finds what it had or what it has now, whole.
+pub fn replace_file<R: Paths + AllocGlobal>(rt: &R, name: &str, bytes: &[u8]) -> io::Result<()> {
+    let mut aside = String::from_str(rt.alloc(), name)?;
+    aside.push_str(".new")?;
+    rt.make_over(aside.as_str())?.write_all(bytes)?;
+    rt.rename(aside.as_str(), name)
 }
 
 /// Whether a file is a FIFO, whose other end may come again.

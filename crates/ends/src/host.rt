@@ -21,6 +21,12 @@ pub trait Paths {
     /// Makes a file of a name that is not there.
     fn make_new(&self, path: &str) -> io::Result<File>;
 
+    /// Makes a file, or empties the one of that name.
+    fn make_over(&self, path: &str) -> io::Result<File>;
+
+    /// Gives a file another name, in place of the one that has it.
+    fn rename(&self, from: &str, to: &str) -> io::Result<()>;
+
     /// What has a name: of a link the link.
     fn look_at(&self, path: &str) -> io::Result<Metadata>;
 
@@ -49,6 +55,18 @@ impl Paths for HostRuntime {
             .write(true)
             .create_new(true)
             .open(self, path)
+    }
+
+    fn make_over(&self, path: &str) -> io::Result<File> {
+        OpenOptions::new()
+            .write(true)
+            .create(true)
+            .truncate(true)
+            .open(self, path)
+    }
+
+    fn rename(&self, from: &str, to: &str) -> io::Result<()> {
+        fs::rename(self, from, to)
     }
 
     fn look_at(&self, path: &str) -> io::Result<Metadata> {

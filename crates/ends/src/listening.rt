@@ -3,7 +3,7 @@
 
 use crate::attempts::Attempts;
 use crate::events::{Door, Event, Gone, Reads, Taker, bring_as, row};
-use crate::faults::{Fault, NamedFile};
+use crate::faults::{Fault, NamedFile, Why};
 use crate::files::is_fifo;
 use crate::host::Host;
 use crossbeam_channel::{Receiver, Sender, bounded};
@@ -12,8 +12,8 @@ use std::alloc::Global;
 use std::fs::File;
 use std::io::Read;
 use std::sync::{Arc, Mutex, Wait};
-use std::thread;
 use std::time::Duration;
+use std::{io, thread};
 use wire::{LineFeed, LineText};
 
 /// How many bytes are read at once.
@@ -123,7 +123,7 @@ impl Source {
                 self.begin(file);
                 Ok(Vec::new(rt.alloc()))
             }
-            Err(_) => self.fail(rt, input),
+            Err(error) => self.fail(rt, input, &error),
         }
     }
 
@@ -140,7 +140,7 @@ impl Source {
         match file.read(piece) {
             Ok(0) => self.end(rt.alloc()),
             Ok(count) => self.take(rt.alloc(), &piece[..count]),
-            Err(_) => self.fail(rt, input),
+            Err(error) => self.fail(rt, input, &error),
         }
     }
 
@@ -154,8 +154,13 @@ impl Source {
     }
 
     /// Hears that the path can't be opened, or read.
-    fn fail<H: Host>(&mut self, rt: &H, input: &Input) -> Result<Vec<LineText>, Stop> {
-        let fault = Fault::File(NamedFile::Input(input.number));
+    fn fail<H: Host>(
+        &mut self,
+        rt: &H,
+        input: &Input,
+        error: &io::Error,
+    ) -> Result<Vec<LineText>, Stop> {
+        let fault = Fault::File(NamedFile::Input(input.number), Why::of(error));
         self.file = None;
         self.before = None;
         if self.attempts.fail(rt, &fault, input.path.as_str()) {

@@ -5,7 +5,7 @@ ghost use Rattle.std.specs.Prelude.{◌≡◌, length};
 use crate::attempts::Attempts;
 use crate::connection::{Connection, End, Keeps, Order, Pen, Piece, is_next};
 use crate::events::{Door, Event, Taker, bring};
-use crate::faults::{Fault, NamedFile};
+use crate::faults::{Fault, NamedFile, Why};
 use crate::files::is_fifo;
 use crate::host::Host;
 use crate::unread::{HasRoom, Unread};
@@ -79,8 +79,9 @@ impl<S: Drop, T: Drop> Output<S, T> {
 
     /// Opens the path, and serves one connection.
     fn connect<R: Host>(&self, rt: &R, attempts: &mut Attempts) -> Result<(), End> {
-        let Ok(file) = rt.open_to_add(self.path.as_str()) else {
-            return Err(End::Failed);
+        let file = match rt.open_to_add(self.path.as_str()) {
+            Ok(file) => file,
+            Err(error) => return Err(End::Failed(Why::of(&error))),
         };
         attempts.open(is_fifo(&file));
         let end = self.serve(rt, file, attempts);
@@ -89,8 +90,8 @@ impl<S: Drop, T: Drop> Output<S, T> {
     }
 
     /// Hears that the path can't be opened, or written. Why the process is to end by that.
-    fn fail<R: Host>(&self, rt: &R, attempts: &mut Attempts) -> Result<(), Stop> {
-        let fault = Fault::File(NamedFile::Output(self.number));
+    fn fail<R: Host>(&self, rt: &R, attempts: &mut Attempts, why: Why) -> Result<(), Stop> {
+        let fault = Fault::File(NamedFile::Output(self.number), why);
         if attempts.fail(rt, &fault, self.path.as_str()) {
             return Err(Stop::Failed(fault));
         }
@@ -112,7 +113,7 @@ impl<S: Drop, T: Drop> Output<S, T> {
                     let _slept = thread::sleep(rt, Duration::from_millis(GAP));
                     Ok(())
                 }
-                Err(End::Failed) => self.fail(rt, &mut attempts),
+                Err(End::Failed(why)) => self.fail(rt, &mut attempts, why),
                 Err(End::Memory) => Err(Stop::Failed(Fault::Memory)),
             };
             if let Err(stop) = went {
@@ -249,6 +250,11 @@ impl Post {
     pub fn note_read_before(&mut self) {
         self.read = self.read.max(self.left.saturating_sub(1));
         self.unread.clear_before();
+    }
+
+    /// How many bytes were left that whoever reads is not known to have read.
+    pub fn unread(&self) -> usize {
+        self.unread.bytes()
     }
 
     /// Has the connection begin anew, where all that was left is written in it and whoever reads lacks some all the same.

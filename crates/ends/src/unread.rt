@@ -1,6 +1,6 @@
 //! How much of what was left for an output is not known to be read.
 
-ghost use Rattle.std.specs.Prelude.{◌≡◌, ◌≤◌, ℕ, List, [], ◌∷◌, ◌++◌, ◌↔◌, IfSome, IsSome};
+ghost use Rattle.std.specs.Prelude.{◌≡◌, ◌≤◌, ◌-◌, ◌^◌, ℕ, List, [], ◌∷◌, ◌++◌, ◌↔◌, IfSome, IsSome, min};
 ghost use Rattle.std.specs.List.{sum};
 ghost use Rattle.ends.specs.machinery.Unread.{Counts};
 
@@ -46,6 +46,13 @@ impl Unread {
         } else {
             None
         }
+    }
+
+    /// How many bytes they have.
+    pub(crate) fn bytes(&self) -> usize
+        ensures { (sizes : List ℕ) → Counts sizes self.now → result ≡ min (sum sizes) (2 ^ 64 - 1) }
+    {
+        self.bytes
     }
 
     /// All were read.

@@ -6,7 +6,7 @@ ghost use Rattle.rv32_hart.specs.Hart.{Hart as HartRecord};
 ghost use Rattle.hart_lease.specs.Runs.{counts_of};
 ghost use Rattle.fragment_codec.specs.declared.frame.Frame.TheVariants.{Opening as OpeningFrame};
 ghost use Rattle.log_pieces.specs.Pieces.{IsCut, book_log};
-ghost use Rattle.output_gate.specs.Gates.{kept_count, mark_at};
+ghost use Rattle.output_gate.specs.Gates.{mark_at, waiting_count};
 ghost use Rattle.input_log.specs.declared.Input.TheVariants.{Timer as TimerInput, Word as WordInput};
 ghost use Rattle.primary.specs.Gating.{AreAllOffered, OffersMore};
 ghost use Rattle.requests.specs.Queues.{at_room, comes_of};
@@ -161,11 +161,11 @@ impl Leader {
         self.released.as_slice()
     }
 
-    /// How many outputs were offered at the gate and did not go out there.
-    pub fn kept(&self) -> usize
-        ensures { result ≡ kept_count self.now.gate.gate.lines }
+    /// How many outputs wait at the gate for keepers.
+    pub fn waiting(&self) -> usize
+        ensures { result ≡ waiting_count self.now.gate.gate.lines }
     {
-        self.gate.kept()
+        self.gate.waiting()
     }
 
     /// Whether a hart is handed an input in the next round.

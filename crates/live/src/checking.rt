@@ -3,6 +3,7 @@
 ghost use Rattle.std.specs.Prelude.{◌≤◌, IfOk};
 
 use crate::mending::misfit_fault;
+use ballots::next_ballot;
 use ends::{Fault, Frames, Host, NamedFile, file_fault, read_file, tell};
 use ft_types::{Guest, Term, first_line};
 use live_keeper::{beside, identity_of, is_there, log_fault, real_name};
@@ -119,6 +120,14 @@ fn write_keeper<W: Write>(keeps: Option<&Keeps>, out: &mut W) -> io::Result<()> 
     )
 }
 
+/// Writes the next term that a person may grant, who is candidate 0.
+fn write_grant<W: Write>(found: &Found, out: &mut W) -> io::Result<()> {
+    match next_ballot(0, found.fence.max(found.checked.last_term)) {
+        Some(term) => writeln!(out, "grant {term}"),
+        None => writeln!(out, "grant none"),
+    }
+}
+
 /// Writes where the first fault stands, or how many bytes stand behind the frames where they are less than one.
 fn write_rest<W: Write>(found: &Found, out: &mut W) -> io::Result<()> {
     let checked = &found.checked;
@@ -143,6 +152,7 @@ fn write_found<W: Write>(found: &Found, out: &mut W) -> io::Result<()> {
         write!(out, " {count}")?;
     }
     writeln!(out)?;
+    write_grant(found, out)?;
     write_rest(found, out)?;
     out.flush()
 }

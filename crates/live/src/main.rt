@@ -6,6 +6,7 @@ mod checking;
 mod mending;
 mod names;
 mod renewing;
+mod telling;
 
 ghost use Rattle.std.specs.Prelude.{◌≤◌};
 
@@ -13,11 +14,14 @@ use crate::checking::check_log;
 use crate::mending::mend_log;
 use crate::names::{name_in_check, name_in_mend, name_in_renew};
 use crate::renewing::renew_log;
+use crate::telling::tell_status;
 use ends::{Fault, Host, refuse, tell};
 use live_client::ask;
 use live_keeper::{hand, keep, make};
 use live_primary::lead;
-use live_words::{CheckWords, MendWords, RenewWords, Task, WordsFault, asked_text, read_task};
+use live_words::{
+    Asked, CheckWords, MendWords, RenewWords, StatusWords, Task, WordsFault, asked_text, read_task,
+};
 use std::process::ExitCode;
 use std::{env, io};
 use version::VERSION;
@@ -69,19 +73,33 @@ fn renew_and_tell<H: Host>(rt: &H, words: &RenewWords<'_>) -> u8
     }
 }
 
+fn status_and_tell<H: Host>(rt: &H, words: &StatusWords<'_>) -> u8
+    ensures { result ≤ 1 }
+{
+    match tell_status(rt, words) {
+        Ok(status) => status,
+        Err(fault) => {
+            tell(rt, &fault, "");
+            1
+        }
+    }
+}
+
 /// Does what is asked for, tells a fault, and gives the status that the program ends with.
-fn run<H: Host>(rt: &H, task: &Task<'_>) -> u8
+fn run<H: Host>(rt: &H, asked: &Asked<'_>) -> u8
     ensures { result ≤ 2 }
 {
-    match task {
+    let status = asked.status;
+    match &asked.task {
         Task::Make(words) => make(rt, words),
-        Task::Keeper(words) => keep(rt, words),
+        Task::Keeper(words) => keep(rt, words, status),
         Task::Hand(words) => hand(rt, words),
         Task::Renew(words) => renew_and_tell(rt, words),
-        Task::Primary(words) => lead(rt, words),
-        Task::Client(words) => ask(rt, words),
+        Task::Primary(words) => lead(rt, words, status),
+        Task::Client(words) => ask(rt, words, status),
         Task::Check(words) => check_and_tell(rt, words),
         Task::Mend(words) => mend_and_tell(rt, words),
+        Task::Status(words) => status_and_tell(rt, words),
     }
 }
 

@@ -6,7 +6,9 @@ ghost use Rattle.live.specs.Mending.{told_of_mending, told_of_misfit};
 use ends::{Fault, Frames, FramesFault, Host, NamedFile, file_fault, read_file};
 use ft_types::{Guest, first_line};
 use keeper_files::{Disk, Part, open_for_keeper};
-use live_keeper::{HostDisk, HostFiles, Places, beside, files_fault, open_fault, real_name};
+use live_keeper::{
+    HostDisk, HostFiles, Places, Reason, beside, files_fault, open_fault, real_name,
+};
 use live_primary::read_image_file;
 use live_words::MendWords;
 use log_mending::{MendFault, Misfit, mend};
@@ -57,11 +59,11 @@ pub(crate) fn owner<H: Host>(
 }
 
 /// The files of the log, which neither a keeper nor `hand` has.
-fn open<H: Host>(rt: &H, guest: Guest, log: &str) -> Result<HostFiles<H>, Fault> {
+fn open<H: Host>(rt: &H, guest: Guest, log: &str, reason: &Reason) -> Result<HostFiles<H>, Fault> {
     let Some(keeps) = owner(rt, &guest, real_name(rt, log)?.as_str(), NamedFile::Fences)? else {
         return Err(Fault::NoLine);
     };
-    let mut disk = HostDisk::new(rt, Places::of(rt, log)?);
+    let mut disk = HostDisk::new(rt, Places::of(rt, log, reason)?);
     if let Err(error) = disk.open(Part::Fences) {
         return Err(file_fault(&error, NamedFile::Fences));
     }
@@ -100,7 +102,8 @@ pub fn mend_log<H: Host>(rt: &H, words: &MendWords<'_>) -> Result<u8, Fault>
     ensures { IfOk result (λ status. status ≡ 0) }
 {
     let guest = read_image_file(rt, words.image)?.guest();
-    let mut files = open(rt, guest, words.log)?;
+    let reason = Reason::new(rt.alloc())?;
+    let mut files = reason.told(open(rt, guest, words.log, &reason))?;
     let pair = files.known.pair;
     let mut others = Vec::new(rt.alloc());
     for number in 0..words.others.len() {
@@ -108,6 +111,6 @@ pub fn mend_log<H: Host>(rt: &H, words: &MendWords<'_>) -> Result<u8, Fault>
     }
     match mend(rt.alloc(), guest, &mut files, &others) {
         Ok(()) => Ok(0),
-        Err(fault) => Err(mend_fault(fault)),
+        Err(fault) => reason.told(Err(mend_fault(fault))),
     }
 }

@@ -4,12 +4,14 @@ ghost use Rattle.std.specs.Prelude.{◌≡◌, ◌≤◌};
 ghost use Rattle.live_client.specs.Ends.{told_of_end};
 
 use crate::names::name_in;
+use crate::status::{Asked, ClientReports};
 use asking::{Told, WordsFault, read_words, told_line};
 use client_turns::{Client, ClientCame, ClientDeed, ClientEnd};
 use crossbeam_channel::RecvTimeoutError;
 use ends::{
-    Door, Event, Fault, Host, Keeps, Listening, NamedFile, Note, Post, Reads, Receiver, Waiting,
-    Writer, begin_posts, file_fault, leave_all, listen_all, read_file, row, tell, tell_note,
+    Board, Door, Event, Fault, Host, Keeps, Listening, NamedFile, Note, Post, Reads, Receiver,
+    Waiting, Writer, begin_posts, begin_reports, file_fault, leave_all, listen_all, read_file, row,
+    tell, tell_note,
 };
 use ft_types::Memory;
 use live_words::ClientWords;
@@ -47,6 +49,9 @@ struct Shell {
     /// When its patience began.
     since: Instant,
     wait: LongWait,
+    asked: Asked,
+    /// Where it is left how the client stands.
+    board: Board<Asked>,
 }
 
 /// Whether it waits for long for an answer.
@@ -141,6 +146,11 @@ impl Shell {
         let posts = begin_posts(rt, 0, &words.requests, Keeps::Last, &to, &mut threads)?;
         let _none = listen_all(rt, 0, &words.answers, Listening::Plain, Whole, &to)?;
         let since = now(rt)?;
+        let asked = Asked {
+            requests: 0,
+            answers: 0,
+            since,
+        };
         Ok(Shell {
             events,
             posts,
@@ -151,6 +161,8 @@ impl Shell {
                 number: 0,
                 is_noted: false,
             },
+            asked,
+            board: Board::new(rt.alloc(), asked)?,
         })
     }
 
@@ -158,6 +170,7 @@ impl Shell {
     fn send<H: Host>(&mut self, rt: &H, request: &Request) -> Result<(), Memory> {
         let bytes = request_line(request).as_slice().to_vec(rt.alloc())?;
         let _waits = leave_all(rt, &mut self.posts, bytes, Writer::Thread)?;
+        self.asked.requests = self.asked.requests.saturating_add(1);
         Ok(())
     }
 
@@ -202,6 +215,8 @@ impl Shell {
             ClientDeed::Ask(request) => self.send(rt, request)?,
             ClientDeed::Print(told) => {
                 self.wait.end(rt, told, self.since);
+                self.asked.answers = self.asked.answers.saturating_add(1);
+                self.asked.since = self.since;
                 self.print(rt, told)?;
             }
             ClientDeed::BePatient => self.since = now(rt)?,
@@ -235,25 +250,30 @@ impl Shell {
                     None => Ok(()),
                 };
             }
+            self.board.leave(rt, self.asked);
             came = self.wait(rt)?;
         }
         Ok(())
     }
 }
 
-fn ask_all<H: Host>(rt: &H, words: &ClientWords<'_>) -> Result<(), Fault> {
+fn ask_all<H: Host>(rt: &H, words: &ClientWords<'_>, status: Option<&str>) -> Result<(), Fault> {
     let asked = words_of(rt, words.file)?;
     let mut client = Client::new(rt.alloc(), asked, words.window, words.answers.len())?;
     let mut shell = Shell::start(rt, words)?;
+    let reports = ClientReports {
+        board: shell.board.copy()?,
+    };
+    begin_reports(rt, status, reports)?;
     shell.lead(rt, &mut client)
 }
 
-/// Asks for the words of a file, and prints each answer once, in the order of the words. The status that the program ends with; a fault
-/// is told on standard error.
-pub fn ask<H: Host>(rt: &H, words: &ClientWords<'_>) -> u8
+/// Asks for the words of a file, and prints each answer once, in the order of the words. How that stands is said in the file of this path, where there is
+/// one. The status that the program ends with; a fault is told on standard error.
+pub fn ask<H: Host>(rt: &H, words: &ClientWords<'_>, status: Option<&str>) -> u8
     ensures { result ≤ 1 }
 {
-    match ask_all(rt, words) {
+    match ask_all(rt, words, status) {
         Ok(()) => 0,
         Err(fault) => {
             tell(rt, &fault, name_in(words, &fault));

@@ -3,5 +3,6 @@
 
 mod client;
 mod names;
+mod status;
 
 pub use client::ask;

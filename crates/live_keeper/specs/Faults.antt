@@ -13,13 +13,14 @@ use Rattle.keeper_files.specs.declared.faults.MakeFault.{MakeFault}
 use Rattle.keeper_files.specs.declared.faults.MakeFault.TheVariants.{Files as FilesOfMake, There}
 use Rattle.ends.specs.declared.faults.Fault.{Fault}
 use Rattle.ends.specs.declared.faults.Fault.TheVariants.{File, Frames as WithFrames, Fenced as WasFenced, Far as IsFar, Locked as IsLocked, Link as IsLink, Failed as HasFailed, Moved as HasMoved, There as IsThere, NoLine as HasNoLine, OtherKeeper as OfOtherKeeper, OtherLog as IsOtherLog, OtherFences as HasOtherFences, Memory as NoMemory}
+use Rattle.ends.specs.declared.faults.Why.TheVariants.{Unknown}
 use Rattle.ends.specs.declared.faults.Frames.TheVariants.{Log as InLog}
 use Rattle.ends.specs.declared.faults.FramesFault.TheVariants.{Frame as OfFrame, Guest as OfGuest, Clash as OfClash}
 use Rattle.ends.specs.declared.faults.NamedFile.TheVariants.{Log as TheLog, Fences as TheFences}
 
 abbrev pub told_of_files : FilesFault → Fault
-told_of_files Log = File TheLog
-told_of_files Fences = File TheFences
+told_of_files Log = File TheLog Unknown
+told_of_files Fences = File TheFences Unknown
 told_of_files Moved = HasMoved
 told_of_files Memory = NoMemory
 

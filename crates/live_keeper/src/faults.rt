@@ -3,17 +3,17 @@
 ghost use Rattle.std.specs.Prelude.{◌≡◌};
 ghost use Rattle.live_keeper.specs.Faults.{told_of_files, told_of_log, told_of_fence, told_of_making, told_of_opening};
 
-use ends::{Fault, Frames, FramesFault, NamedFile};
+use ends::{Fault, Frames, FramesFault, NamedFile, Why};
 use keeper_files::{MakeFault, OpenFault};
 use stations::{FenceFault, FilesFault, LogFault};
 
-/// As it is told that a file could not be read or written, or that memory is wanting.
+/// As it is told that a file could not be read or written, or that memory is wanting. Why is not said.
 pub fn files_fault(fault: FilesFault) -> Fault
     ensures { result ≡ told_of_files fault }
 {
     match fault {
-        FilesFault::Log => Fault::File(NamedFile::Log),
-        FilesFault::Fences => Fault::File(NamedFile::Fences),
+        FilesFault::Log => Fault::File(NamedFile::Log, Why::Unknown),
+        FilesFault::Fences => Fault::File(NamedFile::Fences, Why::Unknown),
         FilesFault::Moved => Fault::Moved,
         FilesFault::Memory => Fault::Memory,
     }

@@ -1,14 +1,17 @@
 //! The disk of a keeper, by calls of the system; fences that were not changed are remembered. What it holds outside is in no contract.
 
-ghost use Rattle.std.specs.Prelude.{⊤};
+ghost use Rattle.std.specs.Prelude.{◌≡◌, ⊤, Ok, IfOk};
 
-use ends::{Fault, NamedFile, Paths, file_fault, read_file, sync_folder};
+use ends::{Fault, NamedFile, Paths, Why, file_fault, read_file, sync_folder};
+use ft_types::Memory;
 use keeper_files::{Disk, DiskFiles, Identity, Known, Part};
 use std::alloc::{AllocError, Global};
 use std::fs::{File, Metadata, TryLockError};
 use std::io;
 use std::io::{Read, Seek, SeekFrom, Write};
 use std::os::unix::fs::MetadataExt;
+use std::result::Result;
+use std::sync::{Arc, Mutex};
 use std::time::UNIX_EPOCH;
 
 /// The name of a file beside a log.
@@ -120,6 +123,14 @@ fn copy_of(alloc: Global, bytes: &[u8]) -> io::Result<Vec<u8>> {
     }
 }
 
+/// The bytes of an open file, from its beginning on.
+fn read_again(alloc: Global, file: &mut File) -> io::Result<Vec<u8>> {
+    let mut bytes = Vec::new(alloc);
+    file.seek(SeekFrom::Start(0))?;
+    file.read_to_end(&mut bytes)?;
+    Ok(bytes)
+}
+
 /// An open file, or the error that it is not.
 fn open_file(file: &mut Option<File>) -> io::Result<&mut File> {
     match file {
@@ -128,9 +139,55 @@ fn open_file(file: &mut Option<File>) -> io::Result<&mut File> {
     }
 }
 
+/// Why a call of the disk failed first.
+#[derive(Drop)]
+pub struct Reason {
+    why: Arc<Mutex<Why>, Global>,
+}
+
+impl Reason {
+    /// None failed yet.
+    pub fn new(alloc: Global) -> Result<Reason, Memory> {
+        Ok(Reason {
+            why: Arc::new(alloc, Mutex::new(Why::Unknown))?,
+        })
+    }
+
+    fn share(&self) -> Result<Reason, Memory> {
+        Ok(Reason {
+            why: Arc::try_clone(&self.why)?,
+        })
+    }
+
+    /// What came of a call, whose error is noted where it is the first one.
+    fn note<T: Drop>(&self, done: io::Result<T>) -> io::Result<T> {
+        if let Err(error) = &done
+            && let Some(mut why) = self.why.try_lock()
+            && matches!(*why, Why::Unknown)
+        {
+            *why = Why::of(error);
+        }
+        done
+    }
+
+    /// What was done, or its fault with why the disk failed.
+    pub fn told<T: Drop>(&self, done: Result<T, Fault>) -> Result<T, Fault>
+        ensures { IfOk result (λ it. done ≡ Ok it) }
+    {
+        match done {
+            Ok(it) => Ok(it),
+            Err(fault) => match self.why.try_lock() {
+                Some(why) => Err(fault.because(*why)),
+                None => Err(fault),
+            },
+        }
+    }
+}
+
 /// The names of a keeper's files, and those that are open.
 #[derive(Drop)]
 pub struct Places {
+    reason: Reason,
     log: String,
     fences: String,
     mark: String,
@@ -142,19 +199,28 @@ pub struct Places {
 
 impl Places {
     /// The names beside a log that is there, none of which is open. Where it is a link they are those of the file to which it leads.
-    pub fn of<R: Paths + AllocGlobal>(rt: &R, log: &str) -> Result<Places, Fault> {
-        Ok(Places::beside(rt, real_name(rt, log)?)?)
+    pub fn of<R: Paths + AllocGlobal>(rt: &R, log: &str, reason: &Reason) -> Result<Places, Fault> {
+        Ok(Places::beside(rt, real_name(rt, log)?, reason)?)
     }
 
     /// The names beside a log that is to be made.
-    pub fn new<R: Paths + AllocGlobal>(rt: &R, log: &str) -> Result<Places, AllocError> {
-        Places::beside(rt, String::from_str(rt.alloc(), log)?)
+    pub fn new<R: Paths + AllocGlobal>(
+        rt: &R,
+        log: &str,
+        reason: &Reason,
+    ) -> Result<Places, Memory> {
+        Places::beside(rt, String::from_str(rt.alloc(), log)?, reason)
     }
 
-    fn beside<R: Paths + AllocGlobal>(rt: &R, log: String) -> Result<Places, AllocError> {
+    fn beside<R: Paths + AllocGlobal>(
+        rt: &R,
+        log: String,
+        reason: &Reason,
+    ) -> Result<Places, Memory> {
         let fences = beside(rt.alloc(), log.as_str(), ".fences")?;
         let mark = beside(rt.alloc(), log.as_str(), ".failed")?;
         Ok(Places {
+            reason: reason.share()?,
             log,
             fences,
             mark,
@@ -201,79 +267,90 @@ impl<R: Paths + AllocGlobal + Copy> Disk for HostDisk<R> {
     ghost deeds = { λ _ _. ⊤ };
 
     fn is_there(&mut self, part: Part) -> io::Result<bool> {
-        is_there(&self.rt, self.places.name(part))
+        let found = is_there(&self.rt, self.places.name(part));
+        self.places.reason.note(found)
     }
 
     fn make(&mut self, part: Part) -> io::Result<()> {
-        let file = self.rt.make_new(self.places.name(part))?;
+        let made = self.rt.make_new(self.places.name(part));
+        let file = self.places.reason.note(made)?;
         *self.places.file(part) = Some(file);
         Ok(())
     }
 
     fn open(&mut self, part: Part) -> io::Result<()> {
-        let file = self.rt.open_to_keep(self.places.name(part))?;
+        let opened = self.rt.open_to_keep(self.places.name(part));
+        let file = self.places.reason.note(opened)?;
         *self.places.file(part) = Some(file);
         Ok(())
     }
 
     fn sync_folder(&mut self) -> io::Result<()> {
-        sync_folder(&self.rt, self.places.log.as_str())
+        let synced = sync_folder(&self.rt, self.places.log.as_str());
+        self.places.reason.note(synced)
     }
 
     fn try_lock_log(&mut self) -> io::Result<bool> {
         match self.places.log()?.try_lock() {
             Ok(()) => Ok(true),
             Err(TryLockError::WouldBlock) => Ok(false),
-            Err(TryLockError::Error(error)) => Err(error),
+            Err(TryLockError::Error(error)) => self.places.reason.note(Err(error)),
         }
     }
 
     fn lock_fences(&mut self) -> io::Result<()> {
-        open_file(&mut self.places.open_fences)?.lock()
+        let locked = open_file(&mut self.places.open_fences)?.lock();
+        self.places.reason.note(locked)
     }
 
     fn own_identity(&mut self) -> io::Result<Identity> {
-        Ok(identity_of(&self.places.log()?.metadata()?))
+        let found = self.places.log()?.metadata();
+        Ok(identity_of(&self.places.reason.note(found)?))
     }
 
     fn named_identity(&mut self) -> io::Result<Identity> {
-        Ok(identity_of(&self.rt.look_at(self.places.log.as_str())?))
+        let found = self.rt.look_at(self.places.log.as_str());
+        Ok(identity_of(&self.places.reason.note(found)?))
     }
 
     fn fences_identity(&mut self) -> io::Result<Identity> {
-        Ok(identity_of(&self.rt.look_at(self.places.fences.as_str())?))
+        let found = self.rt.look_at(self.places.fences.as_str());
+        Ok(identity_of(&self.places.reason.note(found)?))
     }
 
     fn is_marked(&mut self) -> io::Result<bool> {
-        is_there(&self.rt, self.places.mark.as_str())
+        let found = is_there(&self.rt, self.places.mark.as_str());
+        self.places.reason.note(found)
     }
 
     fn mark(&mut self) -> io::Result<()> {
-        self.rt.make_new(self.places.mark.as_str())?.sync_all()
+        let made = self.rt.make_new(self.places.mark.as_str());
+        let synced = self.places.reason.note(made)?.sync_all();
+        self.places.reason.note(synced)
     }
 
     fn unmark(&mut self) -> io::Result<()> {
-        self.rt.remove(self.places.mark.as_str())
+        let removed = self.rt.remove(self.places.mark.as_str());
+        self.places.reason.note(removed)
     }
 
     fn read_log(&mut self, alloc: Global) -> io::Result<Vec<u8>> {
-        let mut bytes = Vec::new(alloc);
-        let log = self.places.log()?;
-        log.seek(SeekFrom::Start(0))?;
-        log.read_to_end(&mut bytes)?;
-        Ok(bytes)
+        let read = read_again(alloc, self.places.log()?);
+        self.places.reason.note(read)
     }
 
     /// They are not read again while they have the stamp that they had before they were read last: a fence makes them longer.
     fn read_fences(&mut self, alloc: Global) -> io::Result<Vec<u8>> {
-        let stamp = stamp_if_there(&self.rt, self.places.fences.as_str())?;
+        let found = stamp_if_there(&self.rt, self.places.fences.as_str());
+        let stamp = self.places.reason.note(found)?;
         if let Some(stamp) = stamp
             && let Some(last) = &self.places.last_read
             && last.stamp == stamp
         {
             return copy_of(alloc, last.bytes.as_slice());
         }
-        let bytes = read_if_there(&self.rt, self.places.fences.as_str())?;
+        let read = read_if_there(&self.rt, self.places.fences.as_str());
+        let bytes = self.places.reason.note(read)?;
         self.places.last_read = match stamp {
             Some(stamp) => Some(LastRead {
                 stamp,
@@ -285,18 +362,21 @@ impl<R: Paths + AllocGlobal + Copy> Disk for HostDisk<R> {
     }
 
     fn cut(&mut self, size: usize) -> io::Result<()> {
-        self.places.log()?.set_len(size as u64)
+        let cut = self.places.log()?.set_len(size as u64);
+        self.places.reason.note(cut)
     }
 
     fn append(&mut self, part: Part, bytes: &[u8]) -> io::Result<()> {
-        open_file(self.places.file(part))?.write_all(bytes)
+        let added = open_file(self.places.file(part))?.write_all(bytes);
+        self.places.reason.note(added)
     }
 
     fn sync(&mut self, part: Part) -> io::Result<()> {
-        match part {
+        let synced = match part {
             Part::Log => self.places.log()?.sync_data(),
             Part::Fences => open_file(&mut self.places.open_fences)?.sync_all(),
-        }
+        };
+        self.places.reason.note(synced)
     }
 }
 

@@ -6,7 +6,7 @@ ghost use Rattle.wire.specs.declared.pairs.Pair.{Pair as pair_of_wire};
 ghost use Rattle.live_keeper.specs.Handing.{HandsOver};
 
 use crate::faults::open_fault;
-use crate::files::{HostDisk, HostFiles, Places};
+use crate::files::{HostDisk, HostFiles, Places, Reason};
 use crate::handed_out::hand_out;
 use crate::names::name_in_hand;
 use ends::{Fault, Host, tell};
@@ -19,8 +19,13 @@ use std::io::Write;
 use std::result::Result;
 
 /// The files of a log that is handed over.
-fn open<H: Host>(rt: &H, guest: Guest, words: &HandWords<'_>) -> Result<HostFiles<H>, Fault> {
-    let disk = HostDisk::new(rt, Places::of(rt, words.log)?);
+fn open<H: Host>(
+    rt: &H,
+    guest: Guest,
+    words: &HandWords<'_>,
+    reason: &Reason,
+) -> Result<HostFiles<H>, Fault> {
+    let disk = HostDisk::new(rt, Places::of(rt, words.log, reason)?);
     match open_for_hand(rt.alloc(), disk, guest, words.keeper) {
         Ok(files) => Ok(files),
         Err(fault) => Err(open_fault(fault)),
@@ -28,10 +33,15 @@ fn open<H: Host>(rt: &H, guest: Guest, words: &HandWords<'_>) -> Result<HostFile
 }
 
 /// What is written of the log of these words.
-fn bytes_of<H: Host>(rt: &H, guest: &Guest, words: &HandWords<'_>) -> Result<Vec<u8>, Fault>
+fn bytes_of<H: Host>(
+    rt: &H,
+    guest: &Guest,
+    words: &HandWords<'_>,
+    reason: &Reason,
+) -> Result<Vec<u8>, Fault>
     ensures { IfOk result (λ bytes. (pair : pair_of_wire) × HandsOver guest.now pair words.now.keeper words.now.term bytes.items) }
 {
-    let files = open(rt, *guest, words)?;
+    let files = open(rt, *guest, words, reason)?;
     let pair = files.known.pair;
     let handed = hand_out(rt.alloc(), guest, &pair, words.keeper, words.term, files)?;
     Ok(handed.bytes)
@@ -48,7 +58,8 @@ fn hand_all<H: Host>(rt: &H, words: &HandWords<'_>) -> Result<u8, Fault>
     ensures { IfOk result (λ status. status ≡ 0) }
 {
     let guest = read_image_file(rt, words.image)?.guest();
-    let bytes = bytes_of(rt, &guest, words)?;
+    let reason = Reason::new(rt.alloc())?;
+    let bytes = reason.told(bytes_of(rt, &guest, words, &reason))?;
     match write_out(rt, &bytes) {
         Ok(()) => Ok(0),
         Err(_) => Err(Fault::Write),

@@ -5,21 +5,24 @@ ghost use Rattle.std.specs.Prelude.{◌≡◌, ◌≤◌, true, false, IfOk};
 use crate::desk::Desk;
 use crate::events::{Event, KeeperDeed};
 use crate::faults::{log_fault, open_fault};
-use crate::files::{HostDisk, HostFiles, LogFiles, Places};
+use crate::files::{HostDisk, HostFiles, LogFiles, Places, Reason, real_name};
 use crate::listening::listen_all;
 use crate::names::name_in_keeper;
 use crate::posting::{Post, begin_posts, posts};
+use crate::status::{Acknowledged, KeeperReports};
 use crate::turns::Keeping;
-use ends::{Door, Fault, Host, Note, Paths, row, tell, tell_note};
+use ends::{Board, Door, Fault, Host, Note, Paths, begin_reports, row, tell, tell_note};
 use ft_types::{Guest, Keeper};
 use keeper_files::open_for_keeper;
 use live_primary::read_image_file;
 use live_words::KeeperWords;
 use stations::KeeperStation;
 use std::io::Eprint;
+use std::option::Option;
 use std::result::Result;
 use std::sync::{Arc, Wait};
 use std::thread::JoinHandle;
+use wire::Acknowledgement;
 
 /// How many pieces of inputs wait at the most: whoever has one more takes those that are there, or waits. All that are there go to the log together.
 pub(crate) const ROOM: usize = 64;
@@ -34,6 +37,9 @@ impl<R: Paths + AllocGlobal + Eprint + Wait + Copy> KeeperHost for R {}
 pub(crate) struct Kept {
     keeping: Keeping,
     files: LogFiles,
+    acknowledged: Acknowledged,
+    /// Where it is left what was acknowledged.
+    board: Board<Acknowledged>,
 }
 
 /// Whether frames are among what came.
@@ -42,9 +48,14 @@ fn brings_frames(came: &[Event]) -> bool {
         .any(|event| matches!(event, Event::Frames(_, _)))
 }
 
-/// Whether something is acknowledged.
-fn acknowledges(deeds: &[KeeperDeed]) -> bool {
-    deeds.iter().any(|deed| matches!(deed, KeeperDeed::Say(_)))
+/// What is acknowledged, if anything.
+fn said_in(deeds: &[KeeperDeed]) -> Option<Acknowledgement> {
+    for deed in deeds {
+        if let KeeperDeed::Say(said) = deed {
+            return Some(*said);
+        }
+    }
+    None
 }
 
 /// Tells outputs that frames came, of which nothing is acknowledged.
@@ -79,19 +90,31 @@ impl Kept {
         came: Vec<Event>,
         outputs: &[Post],
     ) -> Result<Kept, Fault> {
-        let Kept { keeping, files } = self;
+        let Kept {
+            keeping,
+            files,
+            mut acknowledged,
+            board,
+        } = self;
         let mut files = files.on(rt);
         let has_frames = brings_frames(&came);
         let (deeds, turned) = keeping.turn(rt.alloc(), &mut files, came);
         for deed in &deeds {
             carry_out(rt, deed, outputs);
         }
-        if has_frames && !acknowledges(&deeds) {
-            hear_frames(rt, outputs);
+        match said_in(&deeds) {
+            Some(said) => {
+                acknowledged.note(said);
+                board.leave(rt, acknowledged);
+            }
+            None if has_frames => hear_frames(rt, outputs),
+            None => {}
         }
         Ok(Kept {
             keeping: turned?,
             files: LogFiles::of(files),
+            acknowledged,
+            board,
         })
     }
 
@@ -111,8 +134,13 @@ impl Kept {
 }
 
 /// The files of a keeper that runs.
-fn open<H: Host>(rt: &H, guest: Guest, words: &KeeperWords<'_>) -> Result<HostFiles<H>, Fault> {
-    let disk = HostDisk::new(rt, Places::of(rt, words.log)?);
+fn open<H: Host>(
+    rt: &H,
+    guest: Guest,
+    words: &KeeperWords<'_>,
+    reason: &Reason,
+) -> Result<HostFiles<H>, Fault> {
+    let disk = HostDisk::new(rt, Places::of(rt, words.log, reason)?);
     match open_for_keeper(rt.alloc(), disk, guest, words.keeper) {
         Ok(files) => Ok(files),
         Err(fault) => Err(open_fault(fault)),
@@ -134,12 +162,31 @@ fn begin<H: Host>(
     }
 }
 
+/// Has it said in the file of this path, where there is one, what is left at the board.
+fn report<H: Host>(
+    rt: &H,
+    guest: Guest,
+    words: &KeeperWords<'_>,
+    status: Option<&str>,
+) -> Result<Board<Acknowledged>, Fault> {
+    let board = Board::new(rt.alloc(), Acknowledged::new())?;
+    let log = real_name(rt, words.log)?;
+    let reports = KeeperReports::new(rt.alloc(), guest, words.keeper, log, board.copy()?)?;
+    begin_reports(rt, status, reports)?;
+    Ok(board)
+}
+
 /// Keeps a log until all inputs are at their end, and gives the status that the program ends with.
-fn keep_all<H: Host>(rt: &H, words: &KeeperWords<'_>) -> Result<u8, Fault>
+fn keep_all<H: Host>(
+    rt: &H,
+    words: &KeeperWords<'_>,
+    status: Option<&str>,
+    reason: &Reason,
+) -> Result<u8, Fault>
     ensures { IfOk result (λ status. status ≤ 1) }
 {
     let guest = read_image_file(rt, words.image)?.guest();
-    let mut files = open(rt, guest, words)?;
+    let mut files = open(rt, guest, words, reason)?;
     let station = begin(rt, guest, words.keeper, &mut files)?;
     tell_note(rt, &Note::Keeps(words.keeper));
     let (to, events) = row(rt.alloc(), ROOM)?;
@@ -148,20 +195,32 @@ fn keep_all<H: Host>(rt: &H, words: &KeeperWords<'_>) -> Result<u8, Fault>
     let to = Door::new(to, Arc::try_clone(&desk)?);
     let threads = begin_posts(rt, desk.outputs(), &words.outputs, &to)?;
     listen_all(rt, guest, &words.inputs, &desk, &to)?;
+    let board = report(rt, guest, words, status)?;
     let kept = Kept {
         keeping: Keeping::new(station, words.inputs.len()),
         files: LogFiles::of(files),
+        acknowledged: Acknowledged::new(),
+        board,
     };
     let begun = kept.serve(rt, vec![in rt.alloc(); Event::Begin]?, desk.outputs())?;
     let kept = desk.keep(rt, begun)?;
     Ok(kept.end(rt, desk.outputs(), threads))
 }
 
-/// Keeps a log until all inputs are at their end. The status that the program ends with; a fault is told on standard error.
-pub fn keep<H: Host>(rt: &H, words: &KeeperWords<'_>) -> u8
+/// The same, of which a fault says why the disk failed.
+fn keep_or_say<H: Host>(rt: &H, words: &KeeperWords<'_>, status: Option<&str>) -> Result<u8, Fault>
+    ensures { IfOk result (λ status. status ≤ 1) }
+{
+    let reason = Reason::new(rt.alloc())?;
+    reason.told(keep_all(rt, words, status, &reason))
+}
+
+/// Keeps a log until all inputs are at their end, and says how that stands in the file of this path, where there is one. The status that the program ends
+/// with; a fault is told on standard error.
+pub fn keep<H: Host>(rt: &H, words: &KeeperWords<'_>, status: Option<&str>) -> u8
     ensures { result ≤ 1 }
 {
-    match keep_all(rt, words) {
+    match keep_or_say(rt, words, status) {
         Ok(status) => status,
         Err(fault) => {
             tell(rt, &fault, name_in_keeper(words, &fault));

@@ -12,11 +12,12 @@ mod listening;
 mod making;
 mod names;
 mod posting;
+mod status;
 mod turns;
 
 pub use events::{Event, KeeperDeed};
 pub use faults::{fence_fault, files_fault, log_fault, make_fault, open_fault};
-pub use files::{HostDisk, HostFiles, Places, beside, identity_of, is_there, real_name};
+pub use files::{HostDisk, HostFiles, Places, Reason, beside, identity_of, is_there, real_name};
 pub use handing::hand;
 pub use keeping::keep;
 pub use making::make;

@@ -3,7 +3,7 @@
 use crate::desk::Desk;
 use crate::events::Event;
 use ends::{
-    Attempts, Door, Fault, Frames, FramesFault, Gone, Host, NamedFile, Taker, bring, is_fifo,
+    Attempts, Door, Fault, Frames, FramesFault, Gone, Host, NamedFile, Taker, Why, bring, is_fifo,
 };
 use fragment_codec::FrameFault;
 use ft_types::{Guest, Memory};
@@ -94,7 +94,7 @@ enum End {
     /// Whoever writes has left.
     Left,
     /// The path can't be opened, or read.
-    Failed,
+    Failed(Why),
 }
 
 /// Reads a connection whose frames are sound, up to its end, or to what is at fault: then none.
@@ -108,8 +108,9 @@ fn read_sound<H: Host, T: Taker<H>>(
         return Err(fail(rt, input, Fault::Memory));
     };
     for _ in rt.forever() {
-        let Ok(count) = file.read(piece) else {
-            return Ok(Some(End::Failed));
+        let count = match file.read(piece) {
+            Ok(count) => count,
+            Err(error) => return Ok(Some(End::Failed(Why::of(&error)))),
         };
         // The empty piece at the end brings out a fault behind the last frame.
         let sound = take(rt, input, feed, &piece[..count])?;
@@ -130,7 +131,7 @@ fn pass_over<H: Host>(rt: &H, file: &mut File, piece: &mut [u8]) -> End {
         match file.read(piece) {
             Ok(0) => return End::Left,
             Ok(_) => {}
-            Err(_) => return End::Failed,
+            Err(error) => return End::Failed(Why::of(&error)),
         }
     }
     End::Left
@@ -158,25 +159,28 @@ fn read<H: Host, T: Taker<H>>(
 
 /// One connection behind the other. The file of one stays open until the next one is, so that whoever writes there meanwhile meets a reader.
 fn listen_on<H: Host, T: Taker<H>>(rt: &H, input: &Input<T>) -> Result<(), Gone> {
-    let fault = Fault::File(NamedFile::Input(input.number));
     let mut attempts = Attempts::new();
     let mut before = None;
     for _ in rt.forever() {
-        let mut end = End::Failed;
         let opened = rt.open(input.path.as_str());
         drop(before.take());
-        if let Ok(mut file) = opened {
-            let comes_again = is_fifo(&file);
-            attempts.open(comes_again);
-            end = read(rt, input, &mut file, comes_again)?;
-            if !comes_again && matches!(end, End::Left) {
-                return bring(rt, &input.to, Event::Ended);
+        let end = match opened {
+            Ok(mut file) => {
+                let comes_again = is_fifo(&file);
+                attempts.open(comes_again);
+                let end = read(rt, input, &mut file, comes_again)?;
+                if !comes_again && matches!(end, End::Left) {
+                    return bring(rt, &input.to, Event::Ended);
+                }
+                before = Some(file);
+                end
             }
-            before = Some(file);
-        }
+            Err(error) => End::Failed(Why::of(&error)),
+        };
         match end {
             End::Left => attempts.go_well(),
-            End::Failed => {
+            End::Failed(why) => {
+                let fault = Fault::File(NamedFile::Input(input.number), why);
                 if attempts.fail(rt, &fault, input.path.as_str()) {
                     return Err(fail(rt, input, fault));
                 }

@@ -3,7 +3,7 @@
 ghost use Rattle.std.specs.Prelude.{◌≡◌, ◌≤◌, IfOk};
 
 use crate::faults::make_fault;
-use crate::files::{HostDisk, Places};
+use crate::files::{HostDisk, Places, Reason};
 use crate::names::name_in_make;
 use ends::{Fault, Host, tell};
 use keeper_files::make_files;
@@ -16,10 +16,11 @@ fn make_all<H: Host>(rt: &H, words: &MakeWords<'_>) -> Result<u8, Fault>
     ensures { IfOk result (λ status. status ≡ 0) }
 {
     let guest = read_image_file(rt, words.image)?.guest();
-    let mut disk = HostDisk::new(rt, Places::new(rt, words.log)?);
+    let reason = Reason::new(rt.alloc())?;
+    let mut disk = HostDisk::new(rt, Places::new(rt, words.log, &reason)?);
     match make_files(&mut disk, &guest, words.keeper, words.pair) {
         Ok(()) => Ok(0),
-        Err(fault) => Err(make_fault(fault)),
+        Err(fault) => reason.told(Err(make_fault(fault))),
     }
 }
 

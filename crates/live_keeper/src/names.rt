@@ -6,10 +6,10 @@ use live_words::{HandWords, KeeperWords, MakeWords};
 /// The name of the file that a keeper's fault names, which for fences is the log's.
 pub(crate) fn name_in_keeper<'a>(words: &KeeperWords<'a>, fault: &Fault) -> &'a str {
     match fault {
-        Fault::File(NamedFile::Image) => words.image,
-        Fault::File(NamedFile::Log | NamedFile::Fences) => words.log,
-        Fault::File(NamedFile::Input(number)) => name_at(&words.inputs, *number),
-        Fault::File(NamedFile::Output(number)) => name_at(&words.outputs, *number),
+        Fault::File(NamedFile::Image, _) => words.image,
+        Fault::File(NamedFile::Log | NamedFile::Fences, _) => words.log,
+        Fault::File(NamedFile::Input(number), _) => name_at(&words.inputs, *number),
+        Fault::File(NamedFile::Output(number), _) => name_at(&words.outputs, *number),
         _ => "",
     }
 }
@@ -17,8 +17,8 @@ pub(crate) fn name_in_keeper<'a>(words: &KeeperWords<'a>, fault: &Fault) -> &'a 
 /// The name of the file that a fault names where a log is handed over, which for fences is the log's.
 pub(crate) fn name_in_hand<'a>(words: &HandWords<'a>, fault: &Fault) -> &'a str {
     match fault {
-        Fault::File(NamedFile::Image) => words.image,
-        Fault::File(NamedFile::Log | NamedFile::Fences) => words.log,
+        Fault::File(NamedFile::Image, _) => words.image,
+        Fault::File(NamedFile::Log | NamedFile::Fences, _) => words.log,
         _ => "",
     }
 }
@@ -26,8 +26,8 @@ pub(crate) fn name_in_hand<'a>(words: &HandWords<'a>, fault: &Fault) -> &'a str 
 /// The name of the file that a fault names where a log is made, which for fences is the log's.
 pub(crate) fn name_in_make<'a>(words: &MakeWords<'a>, fault: &Fault) -> &'a str {
     match fault {
-        Fault::File(NamedFile::Image) => words.image,
-        Fault::File(NamedFile::Log | NamedFile::Fences) => words.log,
+        Fault::File(NamedFile::Image, _) => words.image,
+        Fault::File(NamedFile::Log | NamedFile::Fences, _) => words.log,
         _ => "",
     }
 }

@@ -2,7 +2,7 @@
 //! reads any more it opens the path again.
 
 use crate::events::Event;
-use ends::{Attempts, Door, Fault, Host, NamedFile, Taker, bring, is_fifo};
+use ends::{Attempts, Door, Fault, Host, NamedFile, Taker, Why, bring, is_fifo};
 use ft_types::{Guest, Keeper, Memory};
 use std::alloc::{AllocError, Global};
 use std::fs::File;
@@ -19,7 +19,7 @@ enum End {
     /// Nobody reads any more.
     Left,
     /// Writing failed.
-    Failed,
+    Failed(Why),
     /// All is written, and nothing is left any more.
     Done,
 }
@@ -83,7 +83,7 @@ fn write(file: &mut File, line: &Line) -> Result<(), End> {
     match file.write_all(line.as_slice()) {
         Ok(()) => Ok(()),
         Err(error) if error.kind() == io::ErrorKind::BrokenPipe => Err(End::Left),
-        Err(_) => Err(End::Failed),
+        Err(error) => Err(End::Failed(Why::of(&error))),
     }
 }
 
@@ -348,8 +348,9 @@ struct Output<T: Drop> {
 impl<T: Drop> Output<T> {
     /// Opens the path, and serves one connection.
     fn connect<H: Host>(&self, rt: &H, attempts: &mut Attempts) -> Result<(), End> {
-        let Ok(file) = rt.open_to_add(self.path.as_str()) else {
-            return Err(End::Failed);
+        let file = match rt.open_to_add(self.path.as_str()) {
+            Ok(file) => file,
+            Err(error) => return Err(End::Failed(Why::of(&error))),
         };
         attempts.open(is_fifo(&file));
         let end = self.from.serve(rt, file, attempts);
@@ -360,13 +361,13 @@ impl<T: Drop> Output<T> {
 
 /// One connection behind the other. The first begins by asking for all frames once more.
 fn run<H: Host, T: Taker<H>>(rt: &H, output: &Output<T>) {
-    let fault = Fault::File(NamedFile::Output(output.number));
     let mut attempts = Attempts::new();
     for _ in rt.forever() {
         match output.connect(rt, &mut attempts) {
             Ok(()) | Err(End::Done) => return,
             Err(End::Left) => {}
-            Err(End::Failed) => {
+            Err(End::Failed(why)) => {
+                let fault = Fault::File(NamedFile::Output(output.number), why);
                 if attempts.fail(rt, &fault, output.path.as_str()) {
                     let _told = bring(rt, &output.to, Event::Failed(fault));
                     return;

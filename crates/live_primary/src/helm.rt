@@ -6,8 +6,9 @@ use crate::bridge::Bridge;
 use crate::names::name_in;
 use crate::office::Office;
 use crate::outset::{Outset, set_out};
+use crate::status::PrimaryReports;
 use crate::ticking::begin_ticks;
-use ends::{Door, Event, Fault, Host, Note, Pen, Receiver, refuse, row, tell_note};
+use ends::{Door, Event, Fault, Host, Note, Pen, Receiver, begin_reports, refuse, row, tell_note};
 use ft_types::Memory;
 use live_words::PrimaryWords;
 use primary_turns::{Deed, Leadership, Next, Said};
@@ -39,6 +40,9 @@ impl Helm {
             return Err(Memory);
         };
         let taken = leadership.take(rt.alloc(), all, &mut self.deeds)?;
+        if let Some(Said::Tick) = all.first() {
+            self.office.report(rt, leadership.standing());
+        }
         self.office.carry_out(rt, &mut self.deeds)?;
         Ok(taken)
     }
@@ -158,7 +162,7 @@ fn has_paths(words: &PrimaryWords<'_>) -> bool {
     words.frames.len() == 1 || words.frames.len() == usize::from(words.quorum.keepers())
 }
 
-fn lead_all<H: Host>(rt: &H, words: &PrimaryWords<'_>) -> Result<(), Fault> {
+fn lead_all<H: Host>(rt: &H, words: &PrimaryWords<'_>, status: Option<&str>) -> Result<(), Fault> {
     if !has_paths(words) {
         return Err(Fault::Usage);
     }
@@ -173,6 +177,11 @@ fn lead_all<H: Host>(rt: &H, words: &PrimaryWords<'_>) -> Result<(), Fault> {
     let to = Door::new(to, Arc::try_clone(&bridge)?);
     let (office, threads) = Office::open(rt, words, guest, frames, removed, &to)?;
     begin_ticks(rt, &to, office.findings()?)?;
+    let reports = PrimaryReports {
+        quorum: words.quorum,
+        board: office.board()?,
+    };
+    begin_reports(rt, status, reports)?;
     let helm = Helm {
         leadership: Some(Leadership::new(rt.alloc(), leader, words.quorum)?),
         deeds: Vec::new(rt.alloc()),
@@ -187,11 +196,12 @@ fn lead_all<H: Host>(rt: &H, words: &PrimaryWords<'_>) -> Result<(), Fault> {
     Ok(())
 }
 
-/// Leads a term, from what keepers handed over to it. The status that the program ends with; a fault is told on standard error.
-pub fn lead<H: Host>(rt: &H, words: &PrimaryWords<'_>) -> u8
+/// Leads a term, from what keepers handed over to it, and says how that stands in the file of this path, where there is one. The status that the program
+/// ends with; a fault is told on standard error.
+pub fn lead<H: Host>(rt: &H, words: &PrimaryWords<'_>, status: Option<&str>) -> u8
     ensures { result ≤ 2 }
 {
-    match lead_all(rt, words) {
+    match lead_all(rt, words, status) {
         Ok(()) => 0,
         Err(fault) => refuse(rt, &fault, name_in(words, &fault)),
     }

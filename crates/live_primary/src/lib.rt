@@ -10,6 +10,7 @@ mod outset;
 mod pairs;
 mod reading;
 mod renewal;
+mod status;
 mod ticking;
 
 pub use helm::lead;

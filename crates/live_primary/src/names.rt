@@ -16,12 +16,12 @@ fn name_in_two<'a>(first: &[&'a str], second: &[&'a str], number: usize) -> &'a 
 /// those of frames.
 pub(crate) fn name_in<'a>(words: &PrimaryWords<'a>, fault: &Fault) -> &'a str {
     match fault {
-        Fault::File(NamedFile::Image) => words.image,
-        Fault::File(NamedFile::Handed(number)) => name_at(&words.handed, *number),
-        Fault::File(NamedFile::Input(number)) => {
+        Fault::File(NamedFile::Image, _) => words.image,
+        Fault::File(NamedFile::Handed(number), _) => name_at(&words.handed, *number),
+        Fault::File(NamedFile::Input(number), _) => {
             name_in_two(&words.requests, &words.acknowledgements, *number)
         }
-        Fault::File(NamedFile::Output(number)) => {
+        Fault::File(NamedFile::Output(number), _) => {
             name_in_two(&words.answers, &words.frames, *number)
         }
         _ => "",

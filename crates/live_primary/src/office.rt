@@ -3,15 +3,16 @@
 ghost use Rattle.std.specs.Prelude.{◌≡◌, map};
 
 use crate::reading::Reader;
+use crate::status::Watched;
 use crate::ticking::Findings;
 use attendance::Finding;
 use ends::{
-    Door, Event, Host, Keeps, Listening, Pen, Post, Relief, RemovedFile, Taker, Writer,
+    Board, Door, Event, Host, Keeps, Listening, Pen, Post, Relief, RemovedFile, Taker, Writer,
     begin_posts, leave_all, listen_all,
 };
-use ft_types::{Guest, Keeper, Memory};
+use ft_types::{Guest, KEEPER_ROW, Keeper, Memory};
 use live_words::PrimaryWords;
-use primary_turns::{Deed, Extent, Said};
+use primary_turns::{Deed, Extent, Said, Standing};
 use std::result::Result;
 use std::sync::Wait;
 use std::thread::JoinHandle;
@@ -36,6 +37,10 @@ pub(crate) struct Office {
     for_keepers: Relief,
     /// Where it is left what ticks found.
     findings: Findings,
+    /// Whether each keeper has a path of its own.
+    has_own_paths: bool,
+    /// Where it is left how the primary stands.
+    board: Board<Option<Watched>>,
 }
 
 /// The thread of an input, which writes answers.
@@ -103,6 +108,8 @@ impl Office {
             for_clients,
             for_keepers,
             findings: Findings::new(rt.alloc())?,
+            has_own_paths: words.frames.len() == usize::from(words.quorum.keepers()),
+            board: Board::new(rt.alloc(), None)?,
         };
         Ok((office, threads))
     }
@@ -110,6 +117,31 @@ impl Office {
     /// Where it is left what ticks found.
     pub(crate) fn findings(&self) -> Result<Findings, Memory> {
         self.findings.copy()
+    }
+
+    /// Where it is left how the primary stands.
+    pub(crate) fn board(&self) -> Result<Board<Option<Watched>>, Memory> {
+        self.board.copy()
+    }
+
+    /// How many bytes each keeper is not known to have read, by a path of its own.
+    fn unread(&self) -> [Option<u64>; KEEPER_ROW] {
+        let mut unread = [None; KEEPER_ROW];
+        if !self.has_own_paths {
+            return unread;
+        }
+        for number in 0..KEEPER_ROW {
+            if let Some(post) = self.keepers.get(number) {
+                unread[number] = Some(post.unread() as u64);
+            }
+        }
+        unread
+    }
+
+    /// Leaves how the primary stands.
+    pub(crate) fn report<R: Wait>(&self, rt: &R, standing: Standing) {
+        let unread = self.unread();
+        self.board.leave(rt, Some(Watched { standing, unread }));
     }
 
     /// Does what is to be done, in its order.

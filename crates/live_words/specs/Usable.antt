@@ -1,7 +1,7 @@
 -- Words that ask for what can be done.
 use Rattle.std.specs.Prelude.{◌<◌}
 use Rattle.live_words.specs.declared.tasks.Task.{Task}
-use Rattle.live_words.specs.declared.tasks.Task.TheVariants.{Make, Keeper, Hand, Renew, Primary, Client, Check, Mend}
+use Rattle.live_words.specs.declared.tasks.Task.TheVariants.{Make, Keeper, Hand, Renew, Primary, Client, Check, Mend, Status}
 
 -- the keeper is one of the pair's; the term is one that is granted; some word may be without an answer, for some time
 abbrev pub IsUsable : Task → Type 0
@@ -13,3 +13,4 @@ IsUsable (Primary words) = 0 < words.term
 IsUsable (Client words) = (0 < words.window) × (0 < words.millis)
 IsUsable (Check words) = Unit {0}
 IsUsable (Mend words) = Unit {0}
+IsUsable (Status words) = Unit {0}

@@ -3,7 +3,7 @@ use Rattle.std.specs.Prelude.{◌≡◌, ◌++◌, ◌⊎◌, ℕ, List, [], ◌
 use Rattle.ft_types.specs.Text.{IsNumber}
 use Rattle.word_forms.specs.declared.matching.Words.{Words}
 use Rattle.live_words.specs.declared.tasks.Task.{Task}
-use Rattle.live_words.specs.declared.tasks.Task.TheVariants.{Make, Keeper, Hand, Renew, Primary, Client, Check, Mend}
+use Rattle.live_words.specs.declared.tasks.Task.TheVariants.{Make, Keeper, Hand, Renew, Primary, Client, Check, Mend, Status}
 use Rattle.wire.specs.Pairs.{IsLongWord}
 
 -- the rows end in these
@@ -68,9 +68,15 @@ Mends words (Mend w) =
     (slice_get words.words.items 0 ≡ Some w.image) × (slice_get words.words.items 1 ≡ Some w.log) × EndIn words.rows.items (w.others ∷ [])
 Mends words other = ⊥
 
+-- PATH..
+abbrev pub Tells : Words → Task → Type 0
+Tells words (Status w) = EndIn words.rows.items (w.paths ∷ [])
+Tells words other = ⊥
+
 -- the task of these words is that of their name
 abbrev pub AsksFor : Words → Task → Type 0
 AsksFor words task =
     ((words.name.now ≡ codes "make") × Makes words task) ⊎ ((words.name.now ≡ codes "keeper") × Keeps words task) ⊎ ((words.name.now ≡ codes "hand") × Hands words task) ⊎
     ((words.name.now ≡ codes "renew") × Renews words task) ⊎ ((words.name.now ≡ codes "primary") × Leads words task) ⊎ ((words.name.now ≡ codes "client") × Asks words task) ⊎
-    ((words.name.now ≡ codes "check") × Checks words task) ⊎ ((words.name.now ≡ codes "mend") × Mends words task)
+    ((words.name.now ≡ codes "check") × Checks words task) ⊎ ((words.name.now ≡ codes "mend") × Mends words task) ⊎
+    ((words.name.now ≡ codes "status") × Tells words task)

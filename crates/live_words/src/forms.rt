@@ -3,7 +3,7 @@
 use word_forms::Form;
 
 /// The forms of the words.
-pub(crate) static FORMS: [Form; 8] = [
+pub(crate) static FORMS: [Form; 9] = [
     Form {
         name: "make",
         usage: "live make IMAGE K KEEPERS NEED PAIR LOG",
@@ -14,7 +14,7 @@ pub(crate) static FORMS: [Form; 8] = [
     },
     Form {
         name: "keeper",
-        usage: "live keeper IMAGE K LOG from FRAMES.. to ACKS..",
+        usage: "live keeper IMAGE K LOG from FRAMES.. to ACKS.. [status PATH]",
         about: "adds what comes to LOG, and acknowledges what LOG holds",
         words: &["image", "keeper", "log"],
         has_paths: false,
@@ -38,7 +38,7 @@ pub(crate) static FORMS: [Form; 8] = [
     },
     Form {
         name: "primary",
-        usage: "live primary IMAGE T KEEPERS NEED in REQUESTS.. out ANSWERS.. to FRAMES.. from ACKS.. with HANDED..",
+        usage: "live primary IMAGE T KEEPERS NEED in REQUESTS.. out ANSWERS.. to FRAMES.. from ACKS.. with HANDED.. [status PATH]",
         about: "leads term T, from what was handed over for it",
         words: &["image", "term", "keepers", "need"],
         has_paths: false,
@@ -46,7 +46,7 @@ pub(crate) static FORMS: [Form; 8] = [
     },
     Form {
         name: "client",
-        usage: "live client FILE WINDOW MILLIS to REQUESTS.. from ANSWERS..",
+        usage: "live client FILE WINDOW MILLIS to REQUESTS.. from ANSWERS.. [status PATH]",
         about: "asks for the words of FILE, and prints their answers",
         words: &["file", "window", "millis"],
         has_paths: false,
@@ -65,6 +65,14 @@ pub(crate) static FORMS: [Form; 8] = [
         usage: "live mend IMAGE LOG FROM..",
         about: "cuts a log behind its frames, and adds what it lacks from other logs",
         words: &["image", "log"],
+        has_paths: true,
+        behind: &[],
+    },
+    Form {
+        name: "status",
+        usage: "live status PATH..",
+        about: "tells as a table what processes wrote of themselves",
+        words: &[],
         has_paths: true,
         behind: &[],
     },

@@ -7,7 +7,7 @@ mod tasks;
 
 pub use matching::{asked_text, read_task};
 pub use tasks::{
-    CheckWords, ClientWords, HandWords, KeeperWords, MakeWords, MendWords, PrimaryWords,
-    RenewWords, Task,
+    Asked, CheckWords, ClientWords, HandWords, KeeperWords, MakeWords, MendWords, PrimaryWords,
+    RenewWords, StatusWords, Task,
 };
 pub use word_forms::WordsFault;

@@ -1,18 +1,20 @@
 //! The task that the words are.
 
-ghost use Rattle.std.specs.Prelude.{◌≡◌, ◌<◌, ◌++◌, ◌∷◌, [], IfOk};
+ghost use Rattle.std.specs.Prelude.{◌≡◌, ◌<◌, ◌++◌, ◌∷◌, [], IfOk, IfNone, IfSome};
 ghost use Rattle.ft_types.specs.Text.{IsNumber};
+ghost use Rattle.live_words.specs.Status.{EndsInStatus};
 ghost use Rattle.live_words.specs.Usable.{IsUsable};
-ghost use Rattle.live_words.specs.Words.{AsksFor, Asks, Checks, Hands, Keeps, Leads, Makes, Mends, Renews};
+ghost use Rattle.live_words.specs.Words.{AsksFor, Asks, Checks, Hands, Keeps, Leads, Makes, Mends, Renews, Tells};
 ghost use Rattle.wire.specs.Pairs.{IsLongWord};
 
 use crate::forms::FORMS;
 use crate::tasks::{
-    CheckWords, ClientWords, HandWords, KeeperWords, MakeWords, MendWords, PrimaryWords,
-    RenewWords, Task,
+    Asked, CheckWords, ClientWords, HandWords, KeeperWords, MakeWords, MendWords, PrimaryWords,
+    RenewWords, StatusWords, Task,
 };
 use ft_types::{KEEPER_LIMIT, Keeper, Quorum, Term, read_number};
 use std::alloc::Global;
+use std::option::Option;
 use std::result::Result;
 use wire::{Pair, read_long_word};
 use word_forms::{Program, Words, WordsFault, read_form, read_text};
@@ -273,6 +275,19 @@ fn mending_of<'a>(words: Words<'a>) -> Result<Task<'a>, WordsFault>
     Ok(Task::Mend(MendWords { image, log, others }))
 }
 
+fn telling_of<'a>(words: Words<'a>) -> Result<Task<'a>, WordsFault>
+    ensures usable { IfOk result IsUsable }
+    ensures which { IfOk result (λ task. Tells words.entry task) }
+{
+    let Words {
+        name: _,
+        words: _,
+        mut rows,
+    } = words;
+    let paths = last_of(&mut rows)?;
+    Ok(Task::Status(StatusWords { paths }))
+}
+
 /// The task of these words.
 fn task_of<'a>(words: Words<'a>) -> Result<Task<'a>, WordsFault>
     ensures usable { IfOk result IsUsable }
@@ -287,16 +302,40 @@ fn task_of<'a>(words: Words<'a>) -> Result<Task<'a>, WordsFault>
         "client" => asking_of(words),
         "check" => checking_of(words),
         "mend" => mending_of(words),
+        "status" => telling_of(words),
         _ => Err(WordsFault::Usage),
     }
 }
 
-/// The task that the words are. A word that begins with `-` is refused before they are parsed. A term is 1 at least, and so are window and
-/// milliseconds.
-pub fn read_task<'a>(alloc: Global, words: &'a [String]) -> Result<Task<'a>, WordsFault>
-    ensures { IfOk result IsUsable }
+/// Whether the words of this form may end in `status PATH`.
+fn is_role(form: &str) -> bool {
+    matches!(form, "keeper" | "primary" | "client")
+}
+
+/// The words without `status PATH` at the end of a role's, and that path.
+fn split_status(words: &[String]) -> (&[String], Option<&str>)
+    ensures some { IfSome result.1 (λ path. EndsInStatus words.now result.0.now path.now) }
+    ensures none { IfNone result.1 (result.0.now ≡ words.now) }
 {
-    task_of(read_form(alloc, "live", &FORMS, words)?)
+    if words.len() <= 2 {
+        return (words, None);
+    }
+    let (before, last) = words.split_at(words.len() - 2);
+    if is_role(before[0].as_str()) && last[0].as_str() == "status" {
+        (before, Some(last[1].as_str()))
+    } else {
+        (words, None)
+    }
+}
+
+/// What the words ask for. A word that begins with `-` is refused before they are parsed. A term is 1 at least, and so are window and
+/// milliseconds.
+pub fn read_task<'a>(alloc: Global, words: &'a [String]) -> Result<Asked<'a>, WordsFault>
+    ensures { IfOk result (λ asked. IsUsable asked.task) }
+{
+    let (words, status) = split_status(words);
+    let task = task_of(read_form(alloc, "live", &FORMS, words)?)?;
+    Ok(Asked { task, status })
 }
 
 /// The text that the words ask for in place of a task, of a program of this version: None where they ask for none.

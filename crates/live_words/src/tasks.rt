@@ -1,6 +1,7 @@
 //! What there is to do.
 
 use ft_types::{Keeper, Quorum, Term};
+use std::option::Option;
 use wire::Pair;
 
 /// `make IMAGE K KEEPERS NEED PAIR LOG`: the log of a keeper of the pair is made.
@@ -91,6 +92,12 @@ pub struct MendWords<'a> {
     pub others: Vec<&'a str>,
 }
 
+/// `status PATH..`: what the processes of a pair wrote of themselves is told as a table.
+#[derive(Drop)]
+pub struct StatusWords<'a> {
+    pub paths: Vec<&'a str>,
+}
+
 /// What is to be done.
 #[derive(Drop)]
 pub enum Task<'a> {
@@ -102,4 +109,13 @@ pub enum Task<'a> {
     Client(ClientWords<'a>),
     Check(CheckWords<'a>),
     Mend(MendWords<'a>),
+    Status(StatusWords<'a>),
+}
+
+/// What is asked for.
+#[derive(Drop)]
+pub struct Asked<'a> {
+    pub task: Task<'a>,
+    /// `status PATH` at the end of a keeper's, a primary's or a client's words: the file in which it says how it stands.
+    pub status: Option<&'a str>,
 }

@@ -192,10 +192,10 @@ pub(crate) fn hears(
     primary(alloc, world, event)
 }
 
-/// How many outputs of a primary went out, and how many did not.
+/// How many outputs of a primary went out, and how many wait.
 pub(crate) fn outputs(world: &LiveWorld, primary: usize) -> Option<(usize, usize)> {
     let leader = world.leader(primary)?;
-    Some((leader.released().len(), leader.kept()))
+    Some((leader.released().len(), leader.waiting()))
 }
 
 /// What was told last: its term and its word.

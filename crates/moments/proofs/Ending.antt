@@ -2,12 +2,13 @@
 use Rattle.std.proofs.Common.{◌≡◌, ℕ, ◌≤◌, List, length, slice_get, Some, subst, arith}
 use Rattle.ft_types.specs.Guests.{GuestParts}
 use Rattle.hart_replay.specs.declared.plans.PlannedLeg.{PlannedLeg}
-use Rattle.hart_replay.specs.Leading.{AreAtEnds}
+use Rattle.hart_replay.specs.Leading.{AreAtEnds, ComesShort}
 use Rattle.least_cuts.proofs.Legs.{one_leg}
-use Rattle.plan_lines.specs.Line.{LineView, Standing, IsAtEnd, steps_of}
+use Rattle.hart_replay.specs.declared.fault.ReplayFault.{ReplayFault}
+use Rattle.plan_lines.specs.Line.{LineView, InLeg, NoneMayGo, Standing, IsAtEnd, GetsStuck, steps_of}
 use Rattle.plan_lines.specs.machinery.Kept.{IsTimeline}
 use Rattle.moments.proofs.Keeping.{ended_all, none_all}
-use Rattle.moments.proofs.Lines.{line_of, in_no_leg}
+use Rattle.moments.proofs.Lines.{line_of, leads_here, in_no_leg}
 
 -- it is at its end, and took each step
 pub record HasEnded (v : LineView) : Type 0 where
@@ -44,3 +45,16 @@ module _ (guest : GuestParts) (legs : List PlannedLeg) (first now : Standing) (s
             };
         all = none_all guest legs first is.begun now is.stands over;
       })
+
+  -- and where not all of them are, and none may go
+  pub stuck_in_leg : (leg : PlannedLeg) (f : ReplayFault) → slice_get v.legs v.stands.place ≡ Some leg →
+      InLeg v (λ l. NoneMayGo l v.stands.machine) → ComesShort now.machine leg.ends f → GetsStuck v f
+  stuck_in_leg leg f at none short =
+      record {
+        standing = v.stands;
+        leads = leads_here guest legs first now snapshots stops is v view;
+        leg = leg;
+        found = at;
+        none = none leg at;
+        short = subst (λ (u : LineView). ComesShort u.stands.machine leg.ends f) view short;
+      }

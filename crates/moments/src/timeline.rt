@@ -15,7 +15,7 @@ ghost use Rattle.plan_lines.specs.Uses.{IsStepFrom};
 ghost use Rattle.hart_lease.specs.Runs.{counts_of};
 ghost use Rattle.hart_replay.specs.declared.fault.ReplayFault.TheVariants as fault;
 ghost use Rattle.hart_replay.specs.Leading.{AreAtEnds, ComesShort};
-ghost use Rattle.plan_lines.specs.Line.{LineView, Leads, standing_at, InLeg, IsAt, IsAtEnd, IsNext, NoneMayGo, HasGoneOn, ends_of, steps_of as steps_of_legs};
+ghost use Rattle.plan_lines.specs.Line.{LineView, Leads, standing_at, InLeg, IsAt, IsAtEnd, IsNext, NoneMayGo, GetsStuck, HasGoneOn, ends_of, steps_of as steps_of_legs};
 ghost use Rattle.moments.specs.machinery.Machines.{machine_of, standing_of};
 ghost use Rattle.plan_lines.specs.machinery.Kept.{IsBegun, IsTurned, OnLine};
 
@@ -391,7 +391,8 @@ impl Timeline {
         ensures all { IfOk result (λ went. went ≡ false → self.old.stands.moment ≡ steps_of_legs self.old.legs) }
         ensures kept { OnErr result (self.new ≡ self.old) }
         ensures fault { IfErr result (λ f. InLeg self.old (λ leg. ComesShort self.old.stands.machine leg.ends f)) }
-        ensures stuck { IfErr result (λ f. f ≢ fault.Memory → InLeg self.old (λ leg. NoneMayGo leg self.old.stands.machine)) }
+        ensures none { IfErr result (λ f. f ≢ fault.Memory → InLeg self.old (λ leg. NoneMayGo leg self.old.stands.machine)) }
+        ensures stuck { IfErr result (λ f. f ≢ fault.Memory → GetsStuck self.old f) }
     {
         let Some(hart) = self.next() else {
             return self.end();
@@ -412,10 +413,12 @@ impl Timeline {
 
     /// False, where the line is at its end; else why nobody can go on.
     fn end(&self) -> Result<bool, ReplayFault>
+        requires { InLeg self.now (λ leg. NoneMayGo leg self.now.stands.machine) }
         ensures end { IfOk result (λ went. (went ≡ false) × IsAtEnd self.now) }
         ensures all { IfOk result (λ went. self.now.stands.moment ≡ steps_of_legs self.now.legs) }
         ensures fault { IfErr result (λ f. InLeg self.now (λ leg. ComesShort self.now.stands.machine leg.ends f)) }
         ensures memory { IfErr result (λ f. f ≢ fault.Memory) }
+        ensures stuck { IfErr result (GetsStuck self.now) }
     {
         // proof: what it keeps.
         let _last = self.last;

@@ -1,9 +1,10 @@
 //! Moments that are gone to.
 
-ghost use Rattle.std.specs.Prelude.{◌≡◌, ◌<◌, ◌≤◌, ◌+◌, ℕ, IfOk, OnOk, IfSome, IfNone, Some, true, false, length, slice_get};
+ghost use Rattle.std.specs.Prelude.{◌≡◌, ◌≢◌, ◌<◌, ◌≤◌, ◌+◌, ℕ, IfOk, IfErr, OnOk, IfSome, IfNone, Some, true, false, length, slice_get};
 ghost use Rattle.guest_image.specs.Machine.{MachineState};
 ghost use Rattle.hart_lease.specs.Runs.{counts_of};
-ghost use Rattle.plan_lines.specs.Line.{IsAt, steps_of, ends_of};
+ghost use Rattle.hart_replay.specs.declared.fault.ReplayFault.TheVariants as fault;
+ghost use Rattle.plan_lines.specs.Line.{IsAt, GetsStuck, steps_of, ends_of};
 ghost use Rattle.moments.specs.Points.{BreaksAt, WatchesAt, HoldsAt, HitsAt, IsOne, NoneFrom};
 ghost use Rattle.moments.specs.Stops.{HasStopped, HasStoppedBack, LastHit};
 
@@ -31,6 +32,7 @@ impl Timeline {
         requires { moment ≤ steps_of self.old.legs }
         ensures line { self.new ≡ record self.old { stands = self.new.stands } }
         ensures there { OnOk result (self.new.stands.moment ≡ moment) }
+        ensures stuck { IfErr result (λ f. f ≢ fault.Memory → GetsStuck self.old f) }
     {
         self.near(moment)?;
         while self.now() < moment {
@@ -47,6 +49,7 @@ impl Timeline {
             IsAt self.new.legs self.new.start moment m → counts_of m hart < count) }
         ensures none { IfOk result (λ went. went ≡ false → (self.new ≡ self.old) × ((moment : ℕ) (m : MachineState) →
             IsAt self.old.legs self.old.start moment m → counts_of m hart < count)) }
+        ensures stuck { IfErr result (λ f. f ≢ fault.Memory → GetsStuck self.old f) }
     {
         if self.end_of(hart) < count {
             return Ok(false);
@@ -89,6 +92,7 @@ impl Timeline {
     pub fn until(&mut self, points: &[Point]) -> Result<Stop, ReplayFault>
         ensures line { self.new ≡ record self.old { stands = self.new.stands } }
         ensures stopped { IfOk result (HasStopped points.now self.old self.new) }
+        ensures stuck { IfErr result (λ f. f ≢ fault.Memory → GetsStuck self.old f) }
     {
         loop {
             let watched = self.watched(points);
@@ -121,6 +125,7 @@ impl Timeline {
         requires within { end ≤ steps_of self.old.legs }
         ensures line { self.new ≡ record self.old { stands = self.new.stands } }
         ensures last { IfOk result (LastHit points.now self.old end) }
+        ensures stuck { IfErr result (λ f. f ≢ fault.Memory → GetsStuck self.old f) }
     {
         let mut last = None;
         while self.now() < end {
@@ -135,6 +140,7 @@ impl Timeline {
     pub fn back_until(&mut self, points: &[Point]) -> Result<Stop, ReplayFault>
         ensures line { self.new ≡ record self.old { stands = self.new.stands } }
         ensures stopped { IfOk result (HasStoppedBack points.now self.old self.new) }
+        ensures stuck { IfErr result (λ f. f ≢ fault.Memory → GetsStuck self.old f) }
     {
         let mut end = self.now();
         while end > 0 {

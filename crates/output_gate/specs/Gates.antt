@@ -83,3 +83,7 @@ held_outputs need noted lines = flat_map (λ line. filter (is_held need noted) l
 -- how many outputs were offered and have not gone out: those that wait, and those that are passed over
 abbrev pub kept_count : List LineView → ℕ
 kept_count lines = sum_by (λ line. length line.passed + length line.waiting) lines
+
+-- how many of them wait
+abbrev pub waiting_count : List LineView → ℕ
+waiting_count lines = sum_by (λ line. length line.waiting) lines

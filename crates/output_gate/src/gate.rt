@@ -8,7 +8,7 @@ ghost use Rattle.ft_types.specs.declared.names.TheConstants.{HART_LIMIT, KEEPER_
 ghost use Rattle.ft_types.specs.Counts.{count_at};
 ghost use Rattle.ft_types.specs.Sets.{IsMember};
 ghost use Rattle.output_gate.specs.Gates.{LineView, fresh_line, with_offer, noted_at, line_of, offered_of, holder_count, after_release, held_outputs};
-ghost use Rattle.output_gate.specs.Gates.{is_held, kept_count};
+ghost use Rattle.output_gate.specs.Gates.{is_held, kept_count, waiting_count};
 ghost use Rattle.output_gate.specs.Orders.{StepsRise, RiseByHart, AreAbove, AreEarlier, ArePassedBelow, IsNext, IsLineOf};
 
 use crate::line::Line;
@@ -65,6 +65,17 @@ fn kept_in(lines: &[Line; HART_ROW]) -> usize
         kept += lines[hart].kept();
     }
     kept
+}
+
+/// How many outputs wait.
+fn waiting_in(lines: &[Line; HART_ROW]) -> usize
+    ensures { result ≡ waiting_count lines.now }
+{
+    let mut waiting = 0usize;
+    for hart in 0..HART_ROW {
+        waiting += lines[hart].waiting();
+    }
+    waiting
 }
 
 /// Adds the outputs that are held, by hart, then number, and says how many they are of each hart.
@@ -210,6 +221,13 @@ impl Gate {
         ensures { result ≡ kept_count self.now.lines }
     {
         kept_in(&self.lines)
+    }
+
+    /// The number of outputs that wait: those that were offered and not released, but for those that are passed over.
+    pub fn waiting(&self) -> usize
+        ensures { result ≡ waiting_count self.now.lines }
+    {
+        waiting_in(&self.lines)
     }
 
     /// The keepers noted above this step of the hart.

@@ -167,6 +167,14 @@ impl Line {
         passed.len() + (offered.len() - self.released)
     }
 
+    /// How many outputs wait.
+    pub(crate) fn waiting(&self) -> usize
+        ensures value { result ≡ length self.now.waiting }
+        ensures limit { result < 2 ^ 59 }
+    {
+        self.offered.as_slice().len() - self.released
+    }
+
     /// Adds the outputs that are held, and says how many they are. They still wait.
     pub(crate) fn give(
         &self,

@@ -28,8 +28,7 @@ use Rattle.hart_replay.specs.Plans.{log_of}
 use Rattle.plan_lines.specs.declared.access.Access.{Access}
 use Rattle.plan_lines.specs.declared.access.Access.TheVariants.{Nothing, Reads, Changes}
 use Rattle.plan_lines.specs.Line.{turn_in}
-use Rattle.plan_lines.specs.Uses.{HasByte, used_at, used_by, used_by_word, used_in, used_next, unless_interrupted}
-use Rattle.moments.specs.Points.{ReadsByte}
+use Rattle.plan_lines.specs.Uses.{HasByte, used_at, used_by, used_by_word, used_in, used_next, unless_interrupted, ReadsByte}
 use Rattle.plan_lines.specs.Laws.{ReadsAreUsed}
 use Rattle.plan_lines.proofs.Interrupts.{received_pc}
 use Rattle.plan_lines.proofs.Regular.{IsRegular, same_number, receives}

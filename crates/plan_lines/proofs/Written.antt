@@ -37,8 +37,7 @@ use Rattle.plan_lines.specs.declared.access.Access.{Access}
 use Rattle.plan_lines.specs.declared.access.Access.TheVariants.{Nothing, Writes, Changes}
 use Rattle.plan_lines.specs.Line.{Standing, standing_at, turn_in, Leads}
 use Rattle.plan_lines.specs.Line.{Begins, StepsOn, TurnsOn}
-use Rattle.plan_lines.specs.Uses.{HasByte, used_at, word_in, used_by, used_by_word, used_in, used_next, unless_interrupted}
-use Rattle.moments.specs.Points.{WritesByte}
+use Rattle.plan_lines.specs.Uses.{HasByte, used_at, word_in, used_by, used_by_word, used_in, used_next, unless_interrupted, WritesByte}
 use Rattle.plan_lines.specs.Laws.{WritesAreUsed}
 use Rattle.least_cuts.proofs.Legs.{some_is}
 use Rattle.plan_lines.proofs.Moves.{runs_there}

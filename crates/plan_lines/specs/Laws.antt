@@ -20,8 +20,7 @@ use Rattle.hart_replay.specs.Images.{GuestHistory, machine_of, IsHonestStoreOf}
 use Rattle.hart_replay.specs.Laws.{ArePlanned}
 use Rattle.plan_lines.specs.Line.{Standing, standing_at, Leads, IsAt, Steps}
 use Rattle.plan_lines.specs.declared.access.Access.{Access}
-use Rattle.plan_lines.specs.Uses.{HasByte, IsStepFrom}
-use Rattle.moments.specs.Points.{ReadsByte, WritesByte}
+use Rattle.plan_lines.specs.Uses.{HasByte, IsStepFrom, ReadsByte, WritesByte}
 
 -- the byte of RAM at this address
 abbrev pub byte_at : MachineState → ℕ → ℕ

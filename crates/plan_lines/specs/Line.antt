@@ -8,9 +8,10 @@ use Rattle.input_log.specs.declared.Input.{Input}
 use Rattle.guest_image.specs.Machine.{MachineState}
 use Rattle.hart_lease.specs.Runs.{run_of, counts_of}
 use Rattle.hart_replay.specs.declared.plans.PlannedLeg.{PlannedLeg}
+use Rattle.hart_replay.specs.declared.fault.ReplayFault.{ReplayFault}
 use Rattle.hart_replay.specs.Plans.{log_of}
 use Rattle.hart_replay.specs.Replays.{is_halted}
-use Rattle.hart_replay.specs.Leading.{AreAtEnds}
+use Rattle.hart_replay.specs.Leading.{AreAtEnds, ComesShort}
 
 -- the hart may go in the leg: it runs, is below its end, and the edges of its next step are met
 pub record MayGo (leg : PlannedLeg) (m : MachineState) (hart : ℕ) : Type 0 where
@@ -95,6 +96,18 @@ InLeg t P = (leg : PlannedLeg) → slice_get t.legs t.stands.place ≡ Some leg 
 pub record IsAtEnd (t : LineView) : Type 0 where
   pub last : length t.legs ≤ t.stands.place + 1
   pub ends : InLeg t (λ leg. AreAtEnds t.stands.machine leg.ends)
+
+-- the line leads to where no hart may go, and one is below the end of its leg: the fault says which, and why
+pub record StuckOn (legs : List PlannedLeg) (start : MachineState) (f : ReplayFault) : Type 0 where
+  pub standing : Standing
+  pub leads : Leads legs (standing_at start) standing
+  pub leg : PlannedLeg
+  pub found : slice_get legs standing.place ≡ Some leg
+  pub none : NoneMayGo leg standing.machine
+  pub short : ComesShort standing.machine leg.ends f
+
+abbrev pub GetsStuck : LineView → ReplayFault → Type 0
+GetsStuck t f = StuckOn t.legs t.start f
 
 -- it stands so many steps further on
 abbrev pub HasGoneOn : LineView → LineView → ℕ → Type 0

@@ -36,6 +36,6 @@ adds_more old all more mid what new first then last parts so_far one = (
 )
 
 -- where nothing is sent no output waits for it
-pub none_kept : (kept : ℕ) (sent : Bool) → (0 < kept → sent ≡ true) → sent ≡ false → kept ≡ 0
-none_kept zero sent waits none = refl
-none_kept (suc n) sent waits none = absurd (false≢true (sym none ∙ waits (omega arith)))
+pub none_waits : (waiting : ℕ) (sent : Bool) → (0 < waiting → sent ≡ true) → sent ≡ false → waiting ≡ 0
+none_waits zero sent waits none = refl
+none_waits (suc n) sent waits none = absurd (false≢true (sym none ∙ waits (omega arith)))

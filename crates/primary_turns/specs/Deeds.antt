@@ -1,5 +1,5 @@
 -- What is to be done, and what of it was told.
-use Rattle.std.specs.Prelude.{◌≡◌, ◌+◌, ◌⊎◌, ◌++◌, ◌∷◌, [], ℕ, List, Option, Some, map, slice_get, slice_set}
+use Rattle.std.specs.Prelude.{◌≡◌, ◌+◌, ◌⊎◌, ◌++◌, ◌∷◌, [], ℕ, List, Option, Some, length, map, slice_get, slice_set}
 use Rattle.requests.specs.declared.queue.Came.TheVariants.{Full as IsFull}
 use Rattle.primary.specs.declared.released.Released.{Released}
 use Rattle.wire.specs.Requests.{hart_of}
@@ -30,6 +30,12 @@ tells term released = map Tell (told_in term (map (λ r. r.output) released))
 abbrev pub sends : List ℕ → List Deed
 sends [] = []
 sends (byte ∷ bytes) = Send (byte ∷ bytes) ∷ []
+
+-- how many bytes these deeds send
+abbrev pub bytes_sent : List Deed → ℕ
+bytes_sent [] = 0
+bytes_sent (Send bytes ∷ deeds) = length bytes + bytes_sent deeds
+bytes_sent (other ∷ deeds) = bytes_sent deeds
 
 -- for each hart the number of its answer that was told last, once these deeds are done
 abbrev pub noted : List (Option ℕ) → List Deed → List (Option ℕ)

@@ -1,10 +1,10 @@
 -- What a primary that leads does with what is said to it, and in its rounds: calls of its leader, and the deeds that follow each.
-use Rattle.std.specs.Prelude.{◌≡◌, ◌≢◌, ◌⊎◌, ◌++◌, ◌∷◌, [], ℕ, List, Option, Some, length, drop}
+use Rattle.std.specs.Prelude.{◌≡◌, ◌≢◌, ◌≤◌, ◌⊎◌, ◌++◌, ◌∷◌, [], ℕ, List, Option, Some, length, drop}
 use Rattle.std.specs.List.{flat_map}
 use Rattle.fragment_codec.specs.Streams.{spelling}
 use Rattle.fragment_codec.specs.declared.frame.Frame.{Frame}
 use Rattle.log_pieces.specs.Pieces.{IsCut, book_log}
-use Rattle.output_gate.specs.Gates.{kept_count}
+use Rattle.output_gate.specs.Gates.{waiting_count}
 use Rattle.primary.specs.Gating.{AreAllOffered, OffersMore}
 use Rattle.requests.specs.declared.queue.Came.TheVariants.{Busy}
 use Rattle.wire.specs.declared.acknowledgements.Acknowledgement.{Acknowledgement}
@@ -25,10 +25,11 @@ use Rattle.primary_turns.specs.declared.said.Said.TheVariants as said
 pub record LeadershipView : Type 0 where
   pub leader : LeaderView
   pub told : List (Option ℕ)  -- for each hart the number of its answer that was told last
+  pub ahead : ℕ  -- how many bytes of frames were sent that too few keepers are known to have
 
--- a leader, and what was told last
-abbrev pub seen : LeaderView → List (Option ℕ) → LeadershipView
-seen leader told = record { leader = leader; told = told }
+-- a leader, what was told last, and how far it is ahead of its keepers
+abbrev pub seen : LeaderView → List (Option ℕ) → ℕ → LeadershipView
+seen leader told ahead = record { leader = leader; told = told; ahead = ahead }
 
 -- ---- what is said
 
@@ -59,9 +60,15 @@ Becomes old (said.Acknowledgement a) new deeds = HearsSaid old.leader a new deed
 Becomes old (said.Again keeper) new deeds = (new ≡ old.leader) × (deeds ≡ Anew keeper ∷ [])
 Becomes old said.Tick new deeds = (new ≡ old.leader) × AreFindings deeds
 
+-- An acknowledgement may lower what is ahead of keepers; all else leaves it.
+abbrev pub IsAhead : ℕ → Said → ℕ → Type 0
+IsAhead old (said.Acknowledgement a) new = new ≤ old
+IsAhead old other new = new ≡ old
+
 pub record Takes (old : LeadershipView) (what : Said) (new : LeadershipView) (deeds : List Deed) : Type 0 where
   pub becomes : Becomes old what new.leader deeds
   pub told : new.told ≡ noted old.told deeds
+  pub ahead : IsAhead old.ahead what new.ahead
 
 -- all that is said is taken, one behind the other
 abbrev pub TakesAll : LeadershipView → List Said → LeadershipView → List Deed → Type 0
@@ -106,7 +113,7 @@ pub record Cuts (old new : LeaderView) (deeds : List Deed) : Type 0 where
 
 -- nothing is cut, nor sent, and no output waits for it
 pub record CutsNone (old new : LeaderView) (deeds : List Deed) : Type 0 where
-  pub kept : kept_count old.gate.gate.lines ≡ 0
+  pub waits : waiting_count old.gate.gate.lines ≡ 0
   pub same : new ≡ old
   pub added : deeds ≡ []
 

@@ -1,6 +1,6 @@
 //! What is to be done.
 
-ghost use Rattle.std.specs.Prelude.{◌≡◌, ◌↔◌, [], IfOk, IsTrue};
+ghost use Rattle.std.specs.Prelude.{◌≡◌, ◌↔◌, [], length, IfOk, IsTrue};
 ghost use Rattle.std.specs.List.{flat_map};
 ghost use Rattle.fragment_codec.specs.Streams.{spelling};
 
@@ -48,6 +48,13 @@ impl FrameBytes {
         ensures { IsTrue result ↔ (self.now ≡ []) }
     {
         self.bytes.is_empty()
+    }
+
+    /// How many they are.
+    pub(crate) fn len(&self) -> usize
+        ensures { result ≡ length self.now }
+    {
+        self.bytes.len()
     }
 
     /// They, as whoever writes takes them.

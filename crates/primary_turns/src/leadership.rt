@@ -1,15 +1,19 @@
 //! A primary that leads a term.
 
-ghost use Rattle.std.specs.Prelude.{◌≡◌, ◌<◌, ◌≤◌, ◌⊎◌, length, replicate, slice_get, take, None, Some, IfOk, OnOk};
+ghost use Rattle.std.specs.Prelude.{◌≡◌, ◌+◌, ◌<◌, ◌≤◌, ◌⊎◌, ℕ, length, replicate, slice_get, take, None, Some, IfOk, OnOk};
 ghost use Rattle.ft_types.specs.declared.names.TheConstants.{HART_ROW};
-ghost use Rattle.output_gate.specs.Gates.{kept_count};
-ghost use Rattle.primary_turns.specs.Deeds.{Adds};
+ghost use Rattle.ft_types.specs.Counts.{count_at};
+ghost use Rattle.hart_lease.specs.Runs.{counts_of};
+ghost use Rattle.output_gate.specs.Gates.{waiting_count};
+ghost use Rattle.primary_turns.specs.Deeds.{Adds, bytes_sent};
 ghost use Rattle.primary_turns.specs.Turns.{ComesAgain, Cuts, CutsNone, Leads, Rounds, TakesAll, seen};
 
 use crate::deeds::{Deed, FrameBytes};
+use crate::flow::{FLOW_LIMIT, Flow};
 use crate::pace::{FIRST_ROUND, Next, Pace, SHORT_ROUNDS};
 use crate::read::Sent;
 use crate::said::Said;
+use crate::standing::Standing;
 use crate::taking::{Notes, take_one};
 use crate::told::Told;
 use attendance::Attendance;
@@ -19,8 +23,9 @@ use std::alloc::Global;
 use std::marker::Model;
 use std::result::Result;
 
-/// A primary that leads a term. Contracts see its leader, and for each hart the number of its answer that was told last. Whoever has it does the
-/// deeds that each call adds, in their order. Want of memory ends it: what was to be done then is not done, and nothing is known of it.
+/// A primary that leads a term. Contracts see its leader, for each hart the number of its answer that was told last, and how many bytes of frames were sent
+/// that too few keepers are known to have. Whoever has it does the deeds that each call adds, in their order. Want of memory ends it: what was to be done
+/// then is not done, and nothing is known of it.
 #[derive(Drop)]
 pub struct Leadership {
     leader: Leader,
@@ -32,7 +37,7 @@ impl Model for Leadership {
 
     ghost Value = { LeadershipView };
 
-    ghost view = { λ l. seen l.leader l.notes.told };
+    ghost view = { λ l. seen l.leader l.notes.told l.notes.flow.ahead };
 }
 
 /// Leads a round of so many steps, and where it is a short one some more, until something comes to the gate: harts that ring each other for an answer
@@ -42,7 +47,7 @@ fn rounds(alloc: Global, leader: Leader, steps: Count, spacing: Spacing) -> Resu
 {
     let mut leader = leader.round(alloc, steps, spacing)?;
     for _more in 1..SHORT_ROUNDS {
-        if steps > FIRST_ROUND || leader.kept() > 0 {
+        if steps > FIRST_ROUND || leader.waiting() > 0 {
             break;
         }
         leader = leader.round(alloc, steps, Spacing::Usual)?;
@@ -55,16 +60,20 @@ fn cut(
     alloc: Global,
     leader: &mut Leader,
     sent: &mut Sent,
+    flow: &mut Flow,
     deeds: &mut Vec<Deed>,
 ) -> Result<(), Memory>
-    ensures { OnOk result (Adds deeds.old.items deeds.new.items (Cuts leader.old leader.new)) }
+    ensures cuts { OnOk result (Adds deeds.old.items deeds.new.items (Cuts leader.old leader.new)) }
+    ensures ahead { OnOk result (Adds deeds.old.items deeds.new.items (λ added. flow.new.ahead ≡ flow.old.ahead + bytes_sent added)) }
 {
     let frames = leader.seal(alloc)?;
     let bytes = FrameBytes::of(alloc, &frames)?;
     if bytes.is_empty() {
         return Ok(());
     }
-    sent.note(leader.counts());
+    let counts = leader.counts();
+    flow.note(bytes.len(), &counts)?;
+    sent.note(counts);
     Ok(deeds.push(Deed::Send(bytes))?)
 }
 
@@ -76,32 +85,72 @@ fn cut_due(
     deeds: &mut Vec<Deed>,
 ) -> Result<(), Memory>
     ensures cuts { OnOk result (Adds deeds.old.items deeds.new.items (λ added. Cuts leader.old leader.new added ⊎ CutsNone leader.old leader.new added)) }
+    ensures ahead { OnOk result (Adds deeds.old.items deeds.new.items (λ added. notes.new.flow.ahead ≡ notes.old.flow.ahead + bytes_sent added)) }
     ensures told { notes.new.told ≡ notes.old.told }
 {
-    if notes.pace.sends(leader.kept()) {
-        cut(alloc, leader, &mut notes.sent, deeds)
+    if notes.pace.sends(leader.waiting()) {
+        cut(alloc, leader, &mut notes.sent, &mut notes.flow, deeds)
     } else {
         Ok(())
     }
 }
 
+/// Leads rounds, and sends what is new, unless more of the longest are to come before.
+fn go_on(
+    alloc: Global,
+    leader: Leader,
+    notes: &mut Notes,
+    deeds: &mut Vec<Deed>,
+) -> Result<Leader, Memory>
+    ensures leads { IfOk result (λ l. Adds deeds.old.items deeds.new.items (Leads leader l)) }
+    ensures ahead { OnOk result (Adds deeds.old.items deeds.new.items (λ added. notes.new.flow.ahead ≡ notes.old.flow.ahead + bytes_sent added)) }
+    ensures told { notes.new.told ≡ notes.old.told }
+{
+    let Pace { steps, spacing, .. } = notes.pace;
+    let mut leader = rounds(alloc, leader, steps, spacing)?;
+    cut_due(alloc, &mut leader, notes, deeds)?;
+    notes.pace.note_led();
+    Ok(leader)
+}
+
 impl Leadership {
     /// It begins with this leader, and keepers.
     pub fn new(alloc: Global, leader: Leader, quorum: Quorum) -> Result<Leadership, Memory>
-        ensures { IfOk result (λ l. l ≡ seen leader (replicate HART_ROW None)) }
+        ensures { IfOk result (λ l. l ≡ seen leader (replicate HART_ROW None) 0) }
     {
         let notes = Notes {
             told: Told::new(alloc)?,
             sent: Sent::new(),
+            flow: Flow::new(quorum),
             attendance: Attendance::new(quorum),
             pace: Pace::new(),
         };
         Ok(Leadership { leader, notes })
     }
 
-    /// What comes next.
+    /// What comes next: nothing, while it rests.
     pub fn next(&self) -> Next {
-        self.notes.pace.next
+        if self.notes.flow.rests() {
+            Next::Wait
+        } else {
+            self.notes.pace.next
+        }
+    }
+
+    /// How the term stands.
+    pub fn standing(&self) -> Standing
+        ensures term { result.term ≡ self.now.leader.primary.opening.term }
+        ensures counts { (hart : ℕ) → count_at result.counts hart ≡ counts_of self.now.leader.primary.book.machine hart }
+        ensures released { result.released ≡ length self.now.leader.released }
+        ensures waiting { result.waiting ≡ waiting_count self.now.leader.gate.gate.lines }
+    {
+        Standing {
+            term: self.leader.term(),
+            counts: self.leader.counts(),
+            released: self.leader.released().len(),
+            waiting: self.leader.waiting(),
+            attendance: self.notes.attendance,
+        }
     }
 
     /// Takes what is said, up to the first request that is to come again: its hart has no room for it. How much was taken.
@@ -129,16 +178,18 @@ impl Leadership {
         Ok(all.len())
     }
 
-    /// Leads rounds, and sends what is new, unless more of the longest are to come before.
+    /// Leads rounds, and sends what is new, unless more of the longest are to come before. Where it is too far ahead of its keepers it rests: none begins.
     pub fn lead(self, alloc: Global, deeds: &mut Vec<Deed>) -> Result<Leadership, Memory>
-        ensures leads { IfOk result (λ l. Adds deeds.old.items deeds.new.items (Leads self.leader l.leader)) }
+        ensures leads { IfOk result (λ l. self.ahead ≤ FLOW_LIMIT → Adds deeds.old.items deeds.new.items (Leads self.leader l.leader)) }
+        ensures rests { IfOk result (λ l. FLOW_LIMIT < self.ahead → (l ≡ self) × (deeds.new.items ≡ deeds.old.items)) }
+        ensures ahead { IfOk result (λ l. Adds deeds.old.items deeds.new.items (λ added. l.ahead ≡ self.ahead + bytes_sent added)) }
         ensures told { IfOk result (λ l. l.told ≡ self.told) }
     {
         let Leadership { leader, mut notes } = self;
-        let Pace { steps, spacing, .. } = notes.pace;
-        let mut leader = rounds(alloc, leader, steps, spacing)?;
-        cut_due(alloc, &mut leader, &mut notes, deeds)?;
-        notes.pace.note_led();
+        if notes.flow.rests() {
+            return Ok(Leadership { leader, notes });
+        }
+        let leader = go_on(alloc, leader, &mut notes, deeds)?;
         Ok(Leadership { leader, notes })
     }
 

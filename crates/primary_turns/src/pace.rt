@@ -27,14 +27,14 @@ const UNSENT_ROUNDS: u8 = 4;
 
 /// Whether keepers are sent what is new behind a round of so many steps, behind which so many are to go by without a look, where so many outputs wait
 /// for them.
-fn is_sent(blind: u8, steps: Count, kept: usize) -> bool
-    ensures waiting { 0 < kept → result ≡ true }
+fn is_sent(blind: u8, steps: Count, waiting: usize) -> bool
+    ensures waiting { 0 < waiting → result ≡ true }
     ensures short { steps < LONGEST_ROUND → result ≡ true }
     ensures looked { blind ≡ 0 → result ≡ true }
     ensures fourth { blind % UNSENT_ROUNDS ≡ 0 → result ≡ true }
-    ensures unsent { kept ≡ 0 → LONGEST_ROUND ≤ steps → blind % UNSENT_ROUNDS ≢ 0 → result ≡ false }
+    ensures unsent { waiting ≡ 0 → LONGEST_ROUND ≤ steps → blind % UNSENT_ROUNDS ≢ 0 → result ≡ false }
 {
-    kept > 0 || steps < LONGEST_ROUND || blind % UNSENT_ROUNDS == 0
+    waiting > 0 || steps < LONGEST_ROUND || blind % UNSENT_ROUNDS == 0
 }
 
 /// How many steps the round behind one of so many has, where no request came between them: few where an input is to be handed to a hart, and
@@ -105,19 +105,19 @@ impl Pace {
     }
 
     /// Rounds begin anew behind a request that was taken: behind all else they would bring nothing new. Whether outputs wait for keepers.
-    pub(crate) fn note_heard(&mut self, heard: &Heard, is_kept: bool) {
+    pub(crate) fn note_heard(&mut self, heard: &Heard, waits: bool) {
         if let Heard::Came(Came::Taken) = heard {
-            self.steps = if is_kept { FIRST_ROUND } else { LONE_ROUND };
+            self.steps = if waits { FIRST_ROUND } else { LONE_ROUND };
             self.blind = 0;
             self.next = Next::Lead;
         }
     }
 
     /// Whether keepers are sent what is new behind the rounds that were led, where so many outputs wait for them.
-    pub(crate) fn sends(&self, kept: usize) -> bool
-        ensures { 0 < kept → result ≡ true }
+    pub(crate) fn sends(&self, waiting: usize) -> bool
+        ensures { 0 < waiting → result ≡ true }
     {
-        is_sent(self.blind, self.steps, kept)
+        is_sent(self.blind, self.steps, waiting)
     }
 
     /// Rounds were led.

@@ -11,13 +11,13 @@ use wire::Acknowledgement;
 #[derive(Clone, Copy)]
 pub(crate) struct Sent {
     /// Those that were sent last; none before the first.
-    last: Option<Counts>,
+    pub(crate) last: Option<Counts>,
     /// Those that were sent before them.
     before: Option<Counts>,
 }
 
 /// Whether each hart of the first is at least where it is in the second.
-fn reaches(counts: &Counts, others: &Counts) -> bool {
+pub(crate) fn reaches(counts: &Counts, others: &Counts) -> bool {
     for number in 0..others.harts() {
         let hart = Hart::new(number);
         if number >= counts.harts() || counts.get(hart) < others.get(hart) {

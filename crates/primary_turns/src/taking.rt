@@ -1,6 +1,6 @@
 //! What is said is taken.
 
-ghost use Rattle.std.specs.Prelude.{◌≡◌, ◌↔◌, Some, false, IfOk, IsTrue, OnOk};
+ghost use Rattle.std.specs.Prelude.{◌≡◌, ◌≤◌, ◌↔◌, Some, false, IfOk, IsTrue, OnOk};
 ghost use Rattle.requests.specs.declared.queue.Came.TheVariants.{Busy};
 ghost use Rattle.leading.specs.declared.heard.Heard.TheVariants.{Came as CameOf};
 ghost use Rattle.primary_turns.specs.Deeds.{Adds, AreAnswersRead, AreRead, noted};
@@ -9,6 +9,7 @@ ghost use Rattle.primary_turns.specs.declared.said.Said.TheVariants as said;
 
 use crate::attending::attend_all;
 use crate::deeds::Deed;
+use crate::flow::Flow;
 use crate::pace::Pace;
 use crate::read::Sent;
 use crate::said::Said;
@@ -25,6 +26,7 @@ use wire::{Acknowledgement, Request};
 #[derive(Drop)]
 pub(crate) struct Notes {
     pub(crate) told: Told,
+    pub(crate) flow: Flow,
     /// This steers, and so do those below.
     pub(crate) sent: Sent,
     pub(crate) attendance: Attendance,
@@ -74,12 +76,13 @@ fn hear(
 ) -> Result<bool, Memory>
     ensures hears { IfOk result (λ taken. IsTrue taken → Adds deeds.old.items deeds.new.items (λ added.
         HearsRequest leader.old request.now leader.new added × (notes.new.told ≡ noted notes.old.told added))) }
+    ensures ahead { notes.new.flow.ahead ≡ notes.old.flow.ahead }
     ensures busy { IfOk result (λ taken. taken ≡ false → IsBusy leader.old request.now) }
     ensures left { IfOk result (λ taken. taken ≡ false → (leader.new ≡ leader.old) × (notes.new.told ≡ notes.old.told) × (deeds.new.items ≡ deeds.old.items)) }
 {
     let heard = leader.hear(alloc, request)?;
     tell_heard(&mut notes.told, deeds, request, &heard)?;
-    notes.pace.note_heard(&heard, leader.kept() > 0);
+    notes.pace.note_heard(&heard, leader.waiting() > 0);
     Ok(!is_busy(&heard))
 }
 
@@ -92,9 +95,10 @@ fn take_request(
     request: &Request,
 ) -> Result<bool, Memory>
     ensures takes { IfOk result (λ taken. IsTrue taken → Adds deeds.old.items deeds.new.items
-        (Takes (seen leader.old notes.old.told) (said.Request request.now) (seen leader.new notes.new.told))) }
+        (Takes (seen leader.old notes.old.told notes.old.flow.ahead) (said.Request request.now) (seen leader.new notes.new.told notes.new.flow.ahead))) }
     ensures busy { IfOk result (λ taken. taken ≡ false → IsBusy leader.old request.now) }
     ensures left { IfOk result (λ taken. taken ≡ false → (leader.new ≡ leader.old) × (notes.new.told ≡ notes.old.told) × (deeds.new.items ≡ deeds.old.items)) }
+    ensures ahead { notes.new.flow.ahead ≡ notes.old.flow.ahead }
 {
     if pass_over(&notes.told, deeds, request)? {
         return Ok(true);
@@ -133,6 +137,16 @@ fn note_read(
     }
 }
 
+/// Hears what a keeper has of what was sent in the term.
+fn hear_ahead(term: Term, notes: &mut Notes, acknowledgement: &Acknowledgement)
+    ensures ahead { notes.new.flow.ahead ≤ notes.old.flow.ahead }
+    ensures told { notes.new.told ≡ notes.old.told }
+{
+    if acknowledgement.term == term {
+        notes.flow.hear(acknowledgement, &notes.sent);
+    }
+}
+
 /// Takes what a keeper has.
 fn take_acknowledgement(
     alloc: Global,
@@ -142,10 +156,11 @@ fn take_acknowledgement(
     acknowledgement: &Acknowledgement,
 ) -> Result<(), Memory>
     ensures { OnOk result (Adds deeds.old.items deeds.new.items
-        (Takes (seen leader.old notes.old.told) (said.Acknowledgement acknowledgement.now) (seen leader.new notes.new.told))) }
+        (Takes (seen leader.old notes.old.told notes.old.flow.ahead) (said.Acknowledgement acknowledgement.now) (seen leader.new notes.new.told notes.new.flow.ahead))) }
 {
     let before = leader.released().len();
     leader.acknowledge(alloc, acknowledgement)?;
+    hear_ahead(leader.term(), notes, acknowledgement);
     note_read(
         leader,
         &notes.sent,
@@ -169,9 +184,9 @@ fn take_tick(
     deeds: &mut Vec<Deed>,
 ) -> Result<(), Memory>
     ensures { OnOk result (Adds deeds.old.items deeds.new.items
-        (Takes (seen leader.now notes.old.told) said.Tick (seen leader.now notes.new.told))) }
+        (Takes (seen leader.now notes.old.told notes.old.flow.ahead) said.Tick (seen leader.now notes.new.told notes.new.flow.ahead))) }
 {
-    let waits = leader.kept() > 0;
+    let waits = leader.waiting() > 0 || notes.flow.rests();
     let findings = notes.attendance.tick(alloc, notes.sent.last(), waits)?;
     attend_all(deeds, &findings)?;
     Ok(())
@@ -186,9 +201,10 @@ pub(crate) fn take_one(
     what: &Said,
 ) -> Result<bool, Memory>
     ensures takes { IfOk result (λ taken. IsTrue taken → Adds deeds.old.items deeds.new.items
-        (Takes (seen leader.old notes.old.told) what.now (seen leader.new notes.new.told))) }
+        (Takes (seen leader.old notes.old.told notes.old.flow.ahead) what.now (seen leader.new notes.new.told notes.new.flow.ahead))) }
     ensures busy { IfOk result (λ taken. taken ≡ false → ComesAgain leader.old (Some what.now)) }
-    ensures left { IfOk result (λ taken. taken ≡ false → (leader.new ≡ leader.old) × (notes.new.told ≡ notes.old.told) × (deeds.new.items ≡ deeds.old.items)) }
+    ensures left { IfOk result (λ taken. taken ≡ false → (leader.new ≡ leader.old) × (notes.new.told ≡ notes.old.told)
+        × (notes.new.flow.ahead ≡ notes.old.flow.ahead) × (deeds.new.items ≡ deeds.old.items)) }
 {
     match what {
         Said::Request(request) => take_request(alloc, leader, notes, deeds, request),

@@ -7,6 +7,8 @@ mod attending;
 #[cfg(test)]
 mod boards;
 #[cfg(test)]
+mod candidates;
+#[cfg(test)]
 mod desks;
 #[cfg(test)]
 mod edges;

@@ -2,7 +2,7 @@
 
 ghost use Rattle.std.specs.Prelude.{◌≡◌, ◌≢◌, ◌↔◌, ℕ, ◌<◌, ◌≤◌, ◌++◌, ◌∷◌, [], Err, length, replicate, slice_index, slice_set, IfOk, IfErr, OnOk, OnErr};
 ghost use Rattle.ft_types.specs.declared.names.TheConstants.{HART_LIMIT, HART_ROW, KEEPER_LIMIT};
-ghost use Rattle.output_gate.specs.Gates.{fresh_line, with_offer, noted_at, line_of, offered_of, kept_count, held_outputs, after_release};
+ghost use Rattle.output_gate.specs.Gates.{fresh_line, with_offer, noted_at, line_of, offered_of, kept_count, waiting_count, held_outputs, after_release};
 ghost use Rattle.output_gate.specs.Orders.{RiseByHart, AreAbove, ArePassedBelow};
 ghost use Rattle.ft_types.specs.Counts.{count_at};
 ghost use Rattle.term_gate.specs.TermGates.{acked_at, AreAcked};
@@ -123,6 +123,13 @@ impl TermGate {
         ensures { result ≡ kept_count self.now.gate.lines }
     {
         self.gate.kept()
+    }
+
+    /// How many outputs wait: those that were offered and not released, but for those that are passed over.
+    pub fn waiting(&self) -> usize
+        ensures { result ≡ waiting_count self.now.gate.lines }
+    {
+        self.gate.waiting()
     }
 
     /// Releases the outputs whose step enough keepers acknowledged, by hart, then number.

@@ -1,0 +1,4 @@
+pub mod Owning
+pub mod Lasting
+pub mod Events
+pub mod Race

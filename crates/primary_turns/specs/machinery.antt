@@ -1,0 +1,2 @@
+-- Files that need no belief: contracts of private functions name them, and only proofs use what they say.
+pub mod Flows

@@ -1,0 +1,3 @@
+pub mod Metrics
+pub mod Texts
+pub mod Values
