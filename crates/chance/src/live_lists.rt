@@ -39,7 +39,7 @@ static LEAST: &[(usize, u64)] = &[
     (LATE_TOLD, 100),
     (HEARD, 22_000),
     (PRINTED, 5_000),
-    (RENEWED, 100),
+    (RENEWED, 20),
 ];
 
 /// Whether the promises are kept behind each event of the list. Where memory is refused to one, nothing or a part of it happened, and the list goes on.
