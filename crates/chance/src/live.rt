@@ -217,6 +217,23 @@ impl Live {
         Ok(numbers)
     }
 
+    /// The keeper's number goes to a new log, with what others handed over to the term: whether it does.
+    pub fn renews(&mut self, alloc: Global, keeper: Keeper, term: Term) -> Result<bool, Memory> {
+        let mut others = Vec::new(alloc);
+        for other in 0..u64::from(self.keepers) {
+            if keeper_of(other) != keeper {
+                others.push(other)?;
+            }
+        }
+        let handed = self.given(alloc, term, &others)?;
+        let event = KeeperEvent::Renew {
+            keeper,
+            term,
+            handed,
+        };
+        self.keeper_does(alloc, event)
+    }
+
     /// A primary goes live in the term from what these keepers have handed over to it: whether it does.
     fn go_live(&mut self, alloc: Global, term: Term, keepers: &[u64]) -> Result<Outcome, Memory> {
         let handed = self.given(alloc, term, keepers)?;

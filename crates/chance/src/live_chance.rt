@@ -5,11 +5,11 @@ ghost use Rattle.std.specs.Prelude.{◌<◌, ◌≤◌};
 use crate::live::{Live, keeper_of};
 use crate::live_tally::{
     ASKED, CRASHES, CUT_SHORT, GRANTS, HANDED, HEARD, LATE_TOLD, LISTS, LOGGED, LiveTally, PRINTED,
-    REFUSED_GRANTS, ROUNDS, SAID, TAKEN, TOLD,
+    REFUSED_GRANTS, RENEWED, ROUNDS, SAID, TAKEN, TOLD,
 };
 use crate::outcome::Outcome;
 use fixtures::Dice;
-use ft_types::{Hart, Memory, Term};
+use ft_types::{Hart, Keeper, Memory, Term};
 use guest_image::Image;
 use live_world::{ClientEvent, HandAct, KeeperEvent, Meanwhile, Planned, PrimaryEvent};
 use std::alloc::Global;
@@ -169,12 +169,21 @@ impl LiveList {
         self.logs(alloc, keeper)
     }
 
-    /// A keeper's machine crashes, or its process ends, or it is lost for good, which is seldom.
+    /// The keeper's number goes to a new log, with what others handed over to the last term.
+    fn renews(&mut self, alloc: Global, keeper: Keeper) -> Result<(), Memory> {
+        let term = self.live.greatest_term();
+        let renewed = self.live.renews(alloc, keeper, term)?;
+        self.count(RENEWED, renewed);
+        Ok(())
+    }
+
+    /// A keeper's machine crashes, or its process ends, or it is lost, which is seldom: for good, or its number goes to a new log.
     fn fails(&mut self, alloc: Global) -> Result<(), Memory> {
         let keeper = keeper_of(self.keeper());
         let event = match self.dice.roll() % 16 {
             0 => KeeperEvent::Lose(keeper),
-            1..=7 => KeeperEvent::KeeperEnds(keeper),
+            1 => return self.renews(alloc, keeper),
+            2..=7 => KeeperEvent::KeeperEnds(keeper),
             _ => {
                 let left = usize::from(self.dice.roll()).wrapping_mul(7);
                 KeeperEvent::Crash { keeper, left }

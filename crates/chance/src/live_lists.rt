@@ -4,7 +4,7 @@
 use crate::live_chance::LiveList;
 use crate::live_tally::{
     ASKED, CRASHES, CUT_SHORT, GRANTS, HANDED, HEARD, LATE_TOLD, LISTS, LOGGED, LiveTally, PRINTED,
-    REFUSED_GRANTS, ROUNDS, SAID, TAKEN, TOLD,
+    REFUSED_GRANTS, RENEWED, ROUNDS, SAID, TAKEN, TOLD,
 };
 use fixtures::{Dice, image_of};
 use ft_types::Memory;
@@ -39,6 +39,7 @@ static LEAST: &[(usize, u64)] = &[
     (LATE_TOLD, 100),
     (HEARD, 22_000),
     (PRINTED, 5_000),
+    (RENEWED, 20),
 ];
 
 /// Whether the promises are kept behind each event of the list. Where memory is refused to one, nothing or a part of it happened, and the list goes on.

@@ -30,9 +30,11 @@ pub const LATE_TOLD: usize = 12;
 pub const HEARD: usize = 13;
 /// Answers that clients told.
 pub const PRINTED: usize = 14;
+/// Keepers' numbers that went to new logs.
+pub const RENEWED: usize = 15;
 
 /// Of how many kinds there is a number.
-const KINDS: usize = 15;
+const KINDS: usize = 16;
 
 /// How often something happened, of each kind.
 #[derive(Clone, Copy)]

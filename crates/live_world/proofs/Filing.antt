@@ -99,6 +99,22 @@ fence_done log safe fence term now hand read crashed is lives = record {
   rest = ap (λ (x : ℕ). shelf_of log safe x hand read crashed) is;
 }
 
+-- all of the log is on disk
+pub brought : (old : ShelfView) (log : List ℕ) (safe size fence : ℕ) (hand : Hand) (read : Option ReadView) (crashed : Bool) →
+    shelf_of log safe fence hand read crashed ≡ old → size ≡ length log →
+    shelf_of log size fence hand read crashed ≡ record old { files = after old.files (Did Synced) }
+brought old log safe size fence hand read crashed was whole =
+    ap (λ (x : List ℕ). record { files = record { log = log; safe = x; fence = fence }; hand = hand; read = read; crashed = crashed })
+    (take_all size log (omega arith))
+    ∙ ap (λ (s : ShelfView). record s { files = after s.files (Did Synced) }) was
+
+-- the fence is put
+pub fence_put : (old : ShelfView) (log : List ℕ) (safe fence term now : ℕ) (hand : Hand) (read : Option ReadView) (crashed : Bool) →
+    shelf_of log safe fence hand read crashed ≡ old → now ≡ max fence term →
+    shelf_of log safe now hand read crashed ≡ record old { files = after old.files (Did (Fenced term)) }
+fence_put old log safe fence term now hand read crashed was is =
+    ap (λ (x : ℕ). shelf_of log safe x hand read crashed) is ∙ ap (λ (s : ShelfView). record s { files = after s.files (Did (Fenced term)) }) was
+
 -- ---- what is told of it
 
 -- of an act of files that stood so

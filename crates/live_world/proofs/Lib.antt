@@ -20,4 +20,7 @@ pub mod Grants
 pub mod Firsts
 pub mod Logs
 pub mod Lines
+pub mod Filled
+pub mod Gifts
+pub mod Renewed
 pub mod Talking

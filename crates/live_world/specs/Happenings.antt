@@ -33,6 +33,7 @@ use Rattle.live_world.specs.declared.seat.Seat.TheVariants.{Runs, Ended}
 use Rattle.live_world.specs.declared.site.Site.{Site}
 use Rattle.live_world.specs.Calls.{CrashesAt, HandsRead, HasBegun, HasLogged, TakesAll}
 use Rattle.live_world.specs.Grants.{AreGivenBy}
+use Rattle.live_world.specs.Renewals.{IsRenewed}
 use Rattle.live_world.specs.Seats.{IsGrantedIn}
 use Rattle.live_world.specs.Shelves.{HandDoes}
 use Rattle.live_world.specs.Sites.{site_at}
@@ -72,6 +73,7 @@ KeeperHappens v (k.Log keeper plan) w =
 KeeperHappens v (k.KeeperEnds keeper) w = AtSite v keeper (λ before after. after ≡ record before { station = None }) w × (w ≡ record v { sites = w.sites })
 KeeperHappens v (k.Crash keeper left) w = AtSite v keeper CrashesAt w × (w ≡ record v { sites = w.sites })
 KeeperHappens v (k.Lose keeper) w = (s : Site) × (site_at v.sites keeper ≡ Some s) × (w ≡ record v { sites = slice_set v.sites keeper None })
+KeeperHappens v (k.Renew keeper term handed) w = IsRenewed v keeper term handed.items w
 KeeperHappens v (k.Hand keeper act) w =
     (handed : List HandedTo) × AtSite v keeper (ThenHands v keeper (HandActs (k.Hand keeper act)) handed) w ×
     (w ≡ record v { sites = w.sites; handed = v.handed ++ handed })

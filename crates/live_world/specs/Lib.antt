@@ -6,6 +6,7 @@ pub mod Seats
 pub mod Calls
 pub mod Grants
 pub mod Views
+pub mod Renewals
 pub mod Happenings
 pub mod Refusals
 pub mod machinery

@@ -24,6 +24,7 @@ use Rattle.live_world.specs.declared.site.Site.{Site}
 use Rattle.live_world.specs.Calls.{BeginsNot, HandsRead, HasBegun, HasLogged, IsNotHandedOver, LogsNot, TakesNot}
 use Rattle.live_world.specs.Grants.{IsNotLive}
 use Rattle.live_world.specs.Happenings.{AtSeat, AtSite, EndsAt, HandActs}
+use Rattle.live_world.specs.Renewals.{IsNotRenewed}
 use Rattle.live_world.specs.Seats.{IsGrantedIn, RunsNot}
 use Rattle.live_world.specs.Shelves.{HandDoes, IsNoTurn}
 use Rattle.live_world.specs.Sites.{site_at}
@@ -38,6 +39,7 @@ keeper_of (k.Log keeper plan) = keeper
 keeper_of (k.KeeperEnds keeper) = keeper
 keeper_of (k.Crash keeper left) = keeper
 keeper_of (k.Lose keeper) = keeper
+keeper_of (k.Renew keeper term handed) = keeper
 keeper_of (k.Hand keeper act) = keeper
 
 -- the machine of the keeper is there, and its process does not run
@@ -49,6 +51,7 @@ RunsAt v keeper = (s : Site) × (st : StationView) × (site_at v.sites keeper �
 
 -- memory was refused, or what a keeper's files have is none of what it asks for
 abbrev pub KeeperRefuses : LiveView → KeeperEvent → EventFault → Type 0
+KeeperRefuses v (k.Renew keeper term handed) f = IsNotRenewed v keeper term handed.items f
 KeeperRefuses v event fault.NoKeeper = site_at v.sites (keeper_of event) ≡ None
 KeeperRefuses v (k.Begin keeper plan) fault.Runs = RunsAt v keeper
 KeeperRefuses v (k.Take keeper from to piece) fault.Rests = RestsAt v keeper

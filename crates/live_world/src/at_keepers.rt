@@ -10,9 +10,10 @@ use crate::event::{HandAct, Planned};
 use crate::fault::EventFault;
 use crate::keepers;
 use crate::parts::LiveParts;
+use crate::renewal::{has_said, new_log};
 use crate::room::make_room;
-use crate::site::{put_site, take_site};
-use ft_types::Keeper;
+use crate::site::{put_site, replace_site, take_site};
+use ft_types::{Keeper, Term};
 use std::alloc::Global;
 use std::option::Option;
 use std::result::Result;
@@ -167,6 +168,28 @@ impl LiveParts {
             return Err(EventFault::NoKeeper);
         };
         Ok(())
+    }
+
+    /// A keeper's number goes to a new log, where its old one acknowledged nothing in the term or behind it.
+    pub(crate) fn renew(
+        &mut self,
+        alloc: Global,
+        keeper: Keeper,
+        term: Term,
+        handed: Vec<usize>,
+    ) -> Result<(), EventFault>
+        ensures happens { OnOk result (KeeperHappens self.old (on.Renew keeper term handed) self.new) }
+        ensures refused { IfErr result (KeeperRefuses self.old (on.Renew keeper term handed)) }
+        ensures left { IfErr result (λ f. KeeperLeaves self.old (on.Renew keeper term handed) f self.new) }
+        ensures goes { GoesTo self.old self.new }
+    {
+        if has_said(&self.said, keeper, term) {
+            return Err(EventFault::HasSaid);
+        }
+        let guest = self.image.guest();
+        let quorum = self.quorum;
+        let files = new_log(alloc, guest, quorum, keeper, term, &self.handed, &handed)?;
+        replace_site(&mut self.sites, keeper, term, files)
     }
 
     /// Whoever hands a keeper's log over does this.

@@ -66,6 +66,13 @@ pub enum KeeperEvent {
     },
     /// A keeper and all that it has on disk are gone for good.
     Lose(Keeper),
+    /// What a keeper had on disk is gone. Its number goes to a new log, with all that others handed over to the term, and with that term's fence; these are
+    /// named by their numbers, from 0.
+    Renew {
+        keeper: Keeper,
+        term: Term,
+        handed: Vec<usize>,
+    },
     /// Whoever hands the keeper's log over does this.
     Hand {
         keeper: Keeper,

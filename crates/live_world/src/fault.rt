@@ -3,6 +3,7 @@
 use fragment_codec::FrameFault;
 use ft_types::{Memory, Term};
 use leading::{HandedFault, LeadFault};
+use log_mending::MendFault;
 use stations::{FilesFault, LogFault};
 
 /// Why an event was refused.
@@ -24,6 +25,16 @@ pub enum EventFault {
     NoFrame,
     /// Nothing of this number was handed over.
     NoneHanded,
+    /// A log was handed over to another term.
+    OtherTerm,
+    /// A log is the one that is to be replaced.
+    OwnLog,
+    /// Of too few keepers a log was handed over.
+    TooFew,
+    /// The keeper acknowledged in the term or in a later one.
+    HasSaid,
+    /// The new log is not filled.
+    Mend(MendFault),
     /// The term was granted before.
     Granted,
     /// There is no such primary, or its process is gone.

@@ -1,7 +1,7 @@
 //! A keeper's files in memory: what both processes do with them, and crashes between, is in what they tell.
 
 ghost use Rattle.std.specs.Prelude.{◌≡◌, false, take, None, Some, IfErr, IfSome, IfNone, OnOk, OnErr};
-ghost use Rattle.stations.specs.Acts.{Added};
+ghost use Rattle.stations.specs.Acts.{Added, Fenced, Synced};
 ghost use Rattle.stations.specs.Handshake.{Did, after};
 ghost use Rattle.live_world.specs.Shelves.{ShelfView, Besides, HandDoes, HasCrashed, IsNoTurn, empty_shelf, read_view};
 
@@ -226,12 +226,27 @@ impl MemoryFiles {
     }
 
     /// The bytes are added to the log, or none of them.
-    fn append(&mut self, bytes: &[u8]) -> Result<(), Memory>
+    pub(crate) fn append(&mut self, bytes: &[u8]) -> Result<(), Memory>
         ensures ok { OnOk result (self.new ≡ record self.old { files = after self.old.files (Did (Added bytes.now)) }) }
         ensures err { OnErr result (self.new ≡ self.old) }
     {
         self.log.extend_from_slice(bytes)?;
         Ok(())
+    }
+
+    /// All of the log is brought to disk.
+    pub(crate) fn bring(&mut self)
+        ensures { self.new ≡ record self.old { files = after self.old.files (Did Synced) } }
+    {
+        let size = self.log.len();
+        self.safe = size;
+    }
+
+    /// The fence is put.
+    pub(crate) fn fence_off(&mut self, term: Term)
+        ensures { self.new ≡ record self.old { files = after self.old.files (Did (Fenced term)) } }
+    {
+        self.fence = self.fence.max(term);
     }
 
     /// What is planned behind the keeper's last act happens.

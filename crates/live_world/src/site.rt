@@ -1,11 +1,13 @@
 //! A keeper's machine: its files, and its process where that runs.
 
-ghost use Rattle.std.specs.Prelude.{◌≡◌, ◌<◌, length, replicate, slice_set, None, Some, IfOk, IfSome, IfNone};
+ghost use Rattle.std.specs.Prelude.{◌≡◌, ◌<◌, length, replicate, slice_set, None, Some, IfOk, IfErr, IfSome, IfNone, OnOk, OnErr};
 ghost use Rattle.ft_types.specs.declared.names.TheConstants.{KEEPER_LIMIT};
+ghost use Rattle.live_world.specs.Renewals.{IsReplaced, IsNotReplaced};
 ghost use Rattle.live_world.specs.Sites.{empty_site, site_at};
 
+use crate::fault::EventFault;
 use crate::files::MemoryFiles;
-use ft_types::{Keeper, Memory};
+use ft_types::{Keeper, Memory, Term};
 use stations::KeeperStation;
 use std::alloc::Global;
 use std::option::Option;
@@ -45,6 +47,30 @@ pub(crate) fn take_site(sites: &mut Vec<Option<Site>>, keeper: Keeper) -> Option
         return None;
     }
     sites[keeper.index()].take()
+}
+
+/// Puts a machine with these files in the place of the keeper's, whose last fence is not above the term.
+pub(crate) fn replace_site(
+    sites: &mut Vec<Option<Site>>,
+    keeper: Keeper,
+    term: Term,
+    files: MemoryFiles,
+) -> Result<(), EventFault>
+    ensures replaced { OnOk result (IsReplaced sites.old.items keeper term files sites.new.items) }
+    ensures err { OnErr result (sites.new.items ≡ sites.old.items) }
+    ensures refused { IfErr result (IsNotReplaced sites.old.items keeper term) }
+{
+    let Some(old) = take_site(sites, keeper) else {
+        return Err(EventFault::NoKeeper);
+    };
+    let fence = old.files.fence();
+    if term == 0 || fence > term {
+        put_site(sites, keeper, old);
+        return Err(EventFault::Fenced(fence));
+    }
+    let station = None;
+    put_site(sites, keeper, Site { files, station });
+    Ok(())
 }
 
 /// Puts a machine back.

@@ -238,6 +238,67 @@ fn what_is_left_happens_once(rt: HostRuntime) -> Result<(), Fail> {
     Ok(())
 }
 
+fn renewal_of(alloc: Global, number: u8, term: Term, numbers: &[usize]) -> Result<LiveEvent, Fail> {
+    Ok(LiveEvent::Keeper(KeeperEvent::Renew {
+        keeper: keeper(number),
+        term,
+        handed: numbers.to_vec(alloc)?,
+    }))
+}
+
+/// The second and the third keeper hand over to term 2, the second one what it acknowledged in term 1.
+fn two_hand_over(alloc: Global) -> Result<LiveWorld, Fail> {
+    let mut world = first_term(alloc)?;
+    logs(alloc, &mut world, SECOND)?;
+    gives(alloc, &mut world, SECOND, 2)?;
+    gives(alloc, &mut world, THIRD, 2)?;
+    Ok(world)
+}
+
+#[test]
+fn a_lost_log_is_filled_from_others(rt: HostRuntime) -> Result<(), Fail> {
+    let alloc = rt.alloc();
+    let mut world = two_hand_over(alloc)?;
+    takes(alloc, &mut world, FIRST, 0)?;
+    let event = logging(alloc, FIRST, TORN)?;
+    assert!(rt; is_refused(alloc, &mut world, event, EventFault::Files(FilesFault::Log)));
+    assert!(rt; log_of(&world, FIRST) == Some((5, 0)));
+    let event = renewal_of(alloc, FIRST, 2, &[3, 4])?;
+    happens(alloc, &mut world, event)?;
+    // It has what the second one has, on disk, and its fence is that of the term.
+    assert!(rt; log_of(&world, FIRST) == log_of(&world, SECOND));
+    let fence = world.site(keeper(FIRST)).map(|site| site.files.fence());
+    assert!(rt; fence == Some(2));
+    // Nobody runs there until the keeper comes back, and says what it has.
+    let event = logging(alloc, FIRST, &[])?;
+    assert!(rt; is_refused(alloc, &mut world, event, EventFault::Rests));
+    begins(alloc, &mut world, FIRST)?;
+    go_live(alloc, &mut world, 2, &[3, 4])?;
+    assert!(rt; outputs(&world, 1) == Some((0, 1)));
+    Ok(())
+}
+
+#[test]
+fn no_log_is_renewed_so(rt: HostRuntime) -> Result<(), Fail> {
+    let alloc = rt.alloc();
+    let mut world = two_hand_over(alloc)?;
+    let rows: [(u8, Term, &[usize], EventFault); 8] = [
+        (FIRST, 2, &[3], EventFault::TooFew),
+        (FIRST, 2, &[3, 3], EventFault::TooFew),
+        (FIRST, 2, &[3, 2], EventFault::OtherTerm),
+        (SECOND, 2, &[3, 4], EventFault::OwnLog),
+        (FIRST, 2, &[3, 9], EventFault::NoneHanded),
+        (SECOND, 1, &[0, 2], EventFault::HasSaid),
+        (THIRD, 1, &[0, 1], EventFault::Fenced(2)),
+        (4, 2, &[3, 4], EventFault::NoKeeper),
+    ];
+    for (number, term, numbers, fault) in rows {
+        let event = renewal_of(alloc, number, term, numbers)?;
+        assert!(rt; is_refused(alloc, &mut world, event, fault));
+    }
+    Ok(())
+}
+
 fn take_of(number: u8, from: usize) -> LiveEvent {
     LiveEvent::Keeper(KeeperEvent::Take {
         keeper: keeper(number),

@@ -68,6 +68,11 @@ impl LiveParts {
             KeeperEvent::KeeperEnds(keeper) => self.end_keeper(keeper),
             KeeperEvent::Crash { keeper, left } => self.crash(keeper, left),
             KeeperEvent::Lose(keeper) => self.lose(keeper),
+            KeeperEvent::Renew {
+                keeper,
+                term,
+                handed,
+            } => self.renew(alloc, keeper, term, handed),
             KeeperEvent::Hand { keeper, act } => self.hand(alloc, keeper, act),
         }
     }

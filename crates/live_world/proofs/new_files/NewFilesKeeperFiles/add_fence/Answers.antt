@@ -1,0 +1,5 @@
+use Rattle.live_world.proofs.Filled.{tells_new}
+use Rattle.live_world.proofs.new_files.NewFilesKeeperFiles.add_fence.Goals as goal
+
+pub returns-clause-ok : goal.returns-clause-ok
+returns-clause-ok c = tells_new _ _ _ c.fence_off.ensures
